@@ -1,0 +1,2 @@
+-- 01, "Who causes which number"
+pub mod Refusals

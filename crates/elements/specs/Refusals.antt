@@ -1,0 +1,27 @@
+-- The number of each refusal (01, "Who causes which number").
+use Prim.Native.Nat.{ℕ}
+use Rattle.elements.specs.declared.refusal.Refusal.{Refusal}
+use Rattle.elements.specs.declared.refusal.Refusal.the-variants.{TextFields, BarcodeFields, Barcode2dFields, LineFields, DiagonalFields, BoxFields, BarcodeType, Barcode2dType, QrData, GraphicFields, GraphicNegative, GraphicTruncated, OutOfRange, InputTooLong, OutputTooShort, StateOutside}
+
+abbrev pub numberOf : Refusal → ℕ
+-- 1 `A`, 2 `B`, 3 `b`, 4 `LO`/`LW`, 5 `LS`, 6 `X` with too few fields
+numberOf TextFields = 1
+numberOf BarcodeFields = 2
+numberOf Barcode2dFields = 3
+numberOf LineFields = 4
+numberOf DiagonalFields = 5
+numberOf BoxFields = 6
+-- 7 type of `B`; 8 type of `b`; 9 QR data over 9,999 bytes
+numberOf BarcodeType = 7
+numberOf Barcode2dType = 8
+numberOf QrData = 9
+-- 10 fewer than four commas, 11 negative, 12 payload passes the end
+numberOf GraphicFields = 10
+numberOf GraphicNegative = 11
+numberOf GraphicTruncated = 12
+-- 13 a sum with the reference, a difference, its absolute value or a font product outside 32 bits
+numberOf OutOfRange = 13
+-- 14 input over 16,777,216 bytes; 15 output longer than its buffer; 16 walk state with its place past the end, or its pending count above its place
+numberOf InputTooLong = 14
+numberOf OutputTooShort = 15
+numberOf StateOutside = 16

@@ -1,0 +1,7 @@
+// Quarter turns.
+pub enum FieldOrientation {
+    Normal,
+    Rotated90,
+    Rotated180,
+    Rotated270,
+}

@@ -1,0 +1,24 @@
+// The records of src/elements that frames carry, by value, under the names of the Rust; refusals. Data only: nothing here reads or writes.
+pub mod barcode_128;
+pub mod barcode_2of5;
+pub mod barcode_39;
+pub mod barcode_aztec;
+pub mod barcode_datamatrix;
+pub mod barcode_ean13;
+pub mod barcode_ean8;
+pub mod barcode_pdf417;
+pub mod barcode_qr;
+pub mod barcode_upca;
+pub mod barcode_upce;
+pub mod data_span;
+pub mod field_orientation;
+pub mod font;
+pub mod graphic_box;
+pub mod graphic_diagonal_line;
+pub mod graphic_field;
+pub mod label_element;
+pub mod label_position;
+pub mod line_color;
+pub mod maxicode;
+pub mod refusal;
+pub mod text_field;

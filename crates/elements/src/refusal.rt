@@ -1,0 +1,53 @@
+// Why a call is refused (01, "Who causes which number").
+ghost use mathlib.Core.Path.{_≡_};
+ghost use Rattle.elements.specs.Refusals.{numberOf};
+
+pub enum Refusal {
+    // The author of the label: too few fields,
+    TextFields,
+    BarcodeFields,
+    Barcode2dFields,
+    LineFields,
+    DiagonalFields,
+    BoxFields,
+    // a type that is not listed, QR data over its limit.
+    BarcodeType,
+    Barcode2dType,
+    QrData,
+    // The sender of the graphic: fewer than four commas, a negative size, a payload past the end.
+    GraphicFields,
+    GraphicNegative,
+    GraphicTruncated,
+    // The author of the label: a position or size outside 32 bits.
+    OutOfRange,
+    // The host: input too long, buffer too short, a walk state that no walk reaches.
+    InputTooLong,
+    OutputTooShort,
+    StateOutside,
+}
+
+impl Refusal {
+    // 01's number.
+    pub fn number(self) -> u8
+        ensures { λ r. ⌜ r ≡ numberOf self ⌝ }
+    {
+        match self {
+            Refusal::TextFields => 1,
+            Refusal::BarcodeFields => 2,
+            Refusal::Barcode2dFields => 3,
+            Refusal::LineFields => 4,
+            Refusal::DiagonalFields => 5,
+            Refusal::BoxFields => 6,
+            Refusal::BarcodeType => 7,
+            Refusal::Barcode2dType => 8,
+            Refusal::QrData => 9,
+            Refusal::GraphicFields => 10,
+            Refusal::GraphicNegative => 11,
+            Refusal::GraphicTruncated => 12,
+            Refusal::OutOfRange => 13,
+            Refusal::InputTooLong => 14,
+            Refusal::OutputTooShort => 15,
+            Refusal::StateOutside => 16,
+        }
+    }
+}

@@ -1,0 +1,33 @@
+-- Laws of a search by places: stretches without b are joined, and the first b by places is the one that `indexOf` gives.
+-- Assumes nothing.
+use mathlib.Core.Path.{_≡_, ap, subst}
+use mathlib.Core.List.{List, [], _∷_}
+use mathlib.Core.Logic.{⊎-elim}
+use Prim.Native.Nat.{ℕ, zero, suc, _+_, _-_, _≤_, _<_}
+use native.Mathlib.Nat.{eq-zero-or-pos}
+use native.Mathlib.Omega.{arith}
+use lib.ListN.{length, getD}
+use borrow.Author.Tests.{eq-eqb, ne-eqb}
+use Rattle.text.specs.Fields.{indexOf, Found}
+use Rattle.text.specs.Scan.{None, First}
+
+pub none-empty : {a : List ℕ} {b lo hi : ℕ} → hi ≤ lo → None a b lo hi
+none-empty h = record { none = λ k p q e. omega arith }
+
+pub none-join : {a : List ℕ} {b lo i j : ℕ} → None a b lo i → None a b i j → None a b lo j
+none-join {i = i} m n = record { none = λ k p q e. ⊎-elim (λ z. n .none k (omega arith) q e) (λ z. m .none k p (omega arith) e) (eq-zero-or-pos (i - k)) }
+
+-- one more place, i, that holds no b
+pub none-step : {a : List ℕ} {b lo j : ℕ} (i : ℕ) → None a b lo i → (getD a i 0 ≡ b → ⊥) → j ≡ i + 1 → None a b lo j
+none-step {a} {b} i n h l = none-join n (record { none = λ k p q e. h (subst (λ (x : ℕ). getD a x 0 ≡ b) (let s : k ≡ i = omega arith in s) e) })
+
+pub first-join : {a : List ℕ} {b from i r : ℕ} → from ≤ i → None a b from i → First a b i r → First a b from r
+first-join h n f = let l = f .low in record { low = omega arith; high = f .high; before = none-join n (f .before); found = f .found }
+
+index-is : (b : ℕ) (a : List ℕ) (r : ℕ) → r ≤ length a → ((k : ℕ) → k < r → getD a k 0 ≡ b → ⊥) → (r < length a → getD a r 0 ≡ b) → r ≡ indexOf b a
+index-is b [] r h n f = omega arith
+index-is b (x ∷ a) zero h n f = simp (eq-eqb x b (f (omega arith)))
+index-is b (x ∷ a) (suc r) h n f = simp (ne-eqb x b (n 0 (omega arith))) (ap suc (index-is b a r (omega arith) (λ k l. n (suc k) (omega arith)) (λ l. f (omega arith))))
+
+pub first-found : {a : List ℕ} {b r : ℕ} → First a b 0 r → Found b a r
+first-found {a} {b} {r} f = record { is = index-is b a r (f .high) (λ k l. f .before .none k (omega arith) l) (f .found); fits = f .high }

@@ -1,0 +1,16 @@
+-- 01, "Grammar": "Data is decoded as `from_utf8_lossy` does"
+pub mod Utf8
+-- 01, "Grammar": ASCII blanks, and Unicode blanks taken off both ends
+pub mod Blank
+-- digits and letters
+pub mod Class
+-- 01, "Grammar": fields, and data between quotes
+pub mod Fields
+-- 01, "Who causes which number", 13: sums, differences, absolute values and products at 32 bits
+pub mod Int
+-- 01, "Grammar": "A number field"
+pub mod Number
+-- a search by places
+pub mod Scan
+-- bytes stored in a row
+pub mod Wrote
