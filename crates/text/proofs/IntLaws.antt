@@ -1,6 +1,6 @@
 -- Signed numbers at 32 bits: sums, differences and products in 64, the range test, the magnitude, and reading a number back from its bits.
 -- Assumes nothing.
-use mathlib.Core.Path.{_≡_, refl, ap}
+use mathlib.Core.Path.{_≡_, refl, sym, ap, _∙_}
 use mathlib.Core.Bool.{Bool, true, false, cond}
 use Prim.Native.Nat.{ℕ, zero, suc, _+_, _-_, _*_, _<_, _≤_}
 use native.Mathlib.Nat.{mul-le-mul}
@@ -113,3 +113,11 @@ eq-bits (pos a) (pos b) p q = refl
 eq-bits (pos a) (negsuc b) p q = ne-eqb (ofZ w32 (pos a)) (ofZ w32 (negsuc b)) (λ h. omega arith)
 eq-bits (negsuc a) (pos b) p q = ne-eqb (ofZ w32 (negsuc a)) (ofZ w32 (pos b)) (λ h. omega arith)
 eq-bits (negsuc a) (negsuc b) p q = eqb-by (eqb a b) a b (ofZ w32 (negsuc a)) (ofZ w32 (negsuc b)) refl (λ h. omega arith) (λ h. omega arith)
+
+-- a signed number that a `match` has told, or not told, to be n
+pub bits-is : (z : ℤ) (n : ℕ) → mag z < 2147483648 → n < 2147483648 → ofZ w32 z ≡ n → z ≡ pos n
+bits-is (pos a) n p q e = ap pos e
+bits-is (negsuc a) n p q e = absurd (omega arith)
+
+pub bits-not : (z : ℤ) (n : ℕ) → mag z < 2147483648 → n < 2147483648 → (ofZ w32 z ≡ n → ⊥) → eqZ z (pos n) ≡ false
+bits-not z n p q h = sym (eq-bits z (pos n) p q) ∙ ne-eqb (ofZ w32 z) n h

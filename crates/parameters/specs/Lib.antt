@@ -1,0 +1,6 @@
+-- 01, "Grammar": "The reference is added to every position"
+pub mod Position
+-- 01, "Grammar": "Rotations 1, 2, 3 are quarter turns, others 0"
+pub mod Rotation
+-- 01, "Grammar": fields in order, their numbers and defaults
+pub mod Params

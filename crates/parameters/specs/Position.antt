@@ -1,0 +1,29 @@
+-- 01, "Grammar": "The reference is added to every position"; 13 where a sum is outside 32 bits.
+use lib.IntN.{ℤ, _+ℤ_}
+use Rattle.text.specs.Int.{checked}
+use Rattle.text.specs.declared.int.Checked.{Checked}
+use Rattle.text.specs.declared.int.Checked.the-variants.{Fits, Outside}
+use Rattle.elements.specs.declared.label_position.LabelPosition.{LabelPosition}
+use Rattle.elements.specs.declared.label_element.LabelElement.{LabelElement}
+use Rattle.elements.specs.declared.refusal.Refusal.the-variants as refusal
+use Rattle.parameters.specs.declared.position.Placed.{Placed}
+use Rattle.parameters.specs.declared.position.Placed.the-variants as placing
+use Rattle.parameters.specs.declared.reading.Reading.{Reading}
+use Rattle.parameters.specs.declared.reading.Reading.the-variants as reading
+
+-- go on with a number that has 32 bits, or give the other answer
+abbrev pub fitting : {A : Type 0} → Checked → A → (ℤ → A) → A
+fitting (Fits z) other go = go z
+fitting Outside other go = other
+
+-- x, y with the reference added, where both sums have 32 bits
+unfoldable pub placed : ℤ → ℤ → LabelPosition → Placed
+placed x y r =
+    fitting (checked (x +ℤ r .x)) placing.Outside λ across.
+    fitting (checked (y +ℤ r .y)) placing.Outside λ down.
+    placing.At (record { x = across; y = down })
+
+-- an element at its position, or 13
+abbrev pub yields : Placed → (LabelPosition → LabelElement) → Reading
+yields (placing.At p) e = reading.Element (e p)
+yields placing.Outside e = reading.Refused refusal.OutOfRange

@@ -1,0 +1,18 @@
+// What one line says.
+use elements::label_element::LabelElement;
+use elements::label_position::LabelPosition;
+use elements::refusal::Refusal;
+
+pub enum Reading {
+    // Passed over.
+    Nothing,
+    // `N`: what is pending is dropped, the reference becomes 0,0.
+    Clear,
+    // `R`: the reference point from here on.
+    Reference(LabelPosition),
+    // An element; its data is counted from the line's first byte.
+    Element(LabelElement),
+    // `P`: what is pending is printed.
+    Print,
+    Refused(Refusal),
+}
