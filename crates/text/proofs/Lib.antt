@@ -12,6 +12,8 @@ pub mod ScanLaws
 pub mod FieldsLaws
 pub mod ClassLaws
 pub mod IntLaws
+pub mod TwosLaws
+pub mod NanLaws
 pub mod NumberLaws
 pub mod BlankSteps
 pub mod Utf8Steps

@@ -1,5 +1,5 @@
 -- Sums, differences, absolute values and products at 32 bits, over the integers (01, "Who causes which number", 13).
-use Prim.Native.Nat.{ℕ}
+use Prim.Native.Nat.{ℕ, _-_}
 use mathlib.Core.Bool.{Bool, false, cond}
 use lib.Dec.{eqb, ltb}
 use lib.IntN.{ℤ, pos, negsuc, natAbs}
@@ -33,3 +33,8 @@ eqZ (pos a) (pos b) = eqb a b
 eqZ (pos a) (negsuc b) = false
 eqZ (negsuc a) (pos b) = false
 eqZ (negsuc a) (negsuc b) = eqb a b
+
+-- two's complement at 32 bits (01, "Frames")
+abbrev pub twos : ℤ → ℕ
+twos (pos n) = n
+twos (negsuc n) = 4294967295 - n

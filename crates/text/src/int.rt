@@ -1,7 +1,7 @@
 // Arithmetic on i32 that says where a result is outside 32 bits.
 ghost use mathlib.Core.Path.{_≡_};
 ghost use lib.IntN.{_+ℤ_, _-ℤ_, _*ℤ_};
-ghost use Rattle.text.specs.Int.{checked, minZ, maxZ, absZ, eqZ};
+ghost use Rattle.text.specs.Int.{checked, minZ, maxZ, absZ, eqZ, twos};
 
 pub enum Checked {
     Fits(i32),
@@ -87,4 +87,15 @@ pub fn equal(a: i32, b: i32) -> bool
     ensures { λ r. ⌜ r ≡ eqZ a b ⌝ }
 {
     a == b
+}
+
+// Its bits, in two's complement.
+pub fn bits(v: i32) -> u32
+    ensures { λ r. ⌜ r ≡ twos v ⌝ }
+{
+    if v < 0 {
+        4294967295 - ((-1 - v) as u32)
+    } else {
+        v as u32
+    }
 }

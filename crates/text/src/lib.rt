@@ -2,6 +2,7 @@
 pub mod blank;
 pub mod class;
 pub mod fields;
+pub mod float;
 pub mod int;
 pub mod num;
 pub mod number;

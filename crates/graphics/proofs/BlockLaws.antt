@@ -1,0 +1,170 @@
+-- Laws of graphic blocks: one turn of the loop that passes a header field, the parts of a header, and where a block's data lies.
+-- Assumes nothing.
+use mathlib.Core.Path.{_≡_, sym, ap, _∙_}
+use mathlib.Core.Bool.{Bool, true, false, _&&_, _||_, and-true}
+use mathlib.Core.List.{List, [], _∷_, _++_, append-nil, append-assoc}
+use Prim.Native.Nat.{ℕ, _+_, _-_, _*_, _<_, _≤_}
+use native.Mathlib.Nat.{mul-le-mul}
+use native.Mathlib.Numerals.{add-one}
+use native.Mathlib.Omega.{arith}
+use lib.Dec.{T, eqb, ltb}
+use lib.IntN.{ℤ, pos, negsuc, natAbs}
+use lib.ListN.{length, getD, take, drop, length-take, length-drop, drop-of-length-le}
+use lib.Seq.{drop-cons, drop-drop, take-suc}
+use lib.Signed.{mag, ltZ, nonNeg, natAbs-le}
+use mir.Syntax.{w64}
+use mir.Val.{Fits}
+use borrow.Author.Tests.{ltb-false}
+use Rattle.text.specs.Blank.{dropWhile, front}
+use Rattle.text.specs.Fields.{same}
+use Rattle.text.proofs.BoolLaws.{test}
+use Rattle.text.proofs.DropSteps.{rest}
+use Rattle.text.proofs.FieldsLaws.{same-length, same-true}
+use Rattle.elements.specs.declared.refusal.Refusal.{Refusal}
+use Rattle.elements.specs.declared.refusal.Refusal.the-variants as refusal
+use Rattle.graphics.specs.declared.gw_span.Graphic.the-variants as graphic
+use Rattle.graphics.specs.declared.gw_span.GwNumbers.{GwNumbers}
+use Rattle.graphics.specs.declared.gw_span.GwSpan.{GwSpan}
+use Rattle.graphics.specs.Block.{isLineBlank, opensGw, inField, startsComma, afterHeaderField, fourClosed, payloadOf, gwNumbers, total, measured, headerOf, gwSpan, FieldLen}
+
+-- the loop that passes the first header field
+
+-- nothing but bytes of the first header field stands in t before i
+pub record Within (t : List ℕ) (i : ℕ) : Type 0 where
+  pub passed : front inField t ≡ take i t ++ front inField (drop i t)
+  pub left : dropWhile inField t ≡ dropWhile inField (drop i t)
+  pub fits : i ≤ length t
+
+module _ (t : List ℕ) (i : ℕ) (w : Within t i) where
+  pub field-step : i < length t → inField (getD t i 0) ≡ true → Within t (i + 1)
+  field-step h e =
+      record {
+        passed = w .passed ∙ rw (add-one, take-suc t i 0, drop-cons t i 0) (simp (e, append-assoc));
+        left = w .left ∙ rw (add-one, drop-cons t i 0) (simp e);
+        fits = omega arith;
+      }
+
+  pub field-stop : i < length t → inField (getD t i 0) ≡ false → FieldLen t i
+  field-stop h e =
+      record {
+        is = sym (w .passed ∙ rw (drop-cons t i 0) (simp (e, append-nil)));
+        left = sym (w .left ∙ rw (drop-cons t i 0) (simp e));
+        fits = w .fits;
+      }
+
+  pub field-end : length t ≤ i → FieldLen t i
+  field-end h =
+      record {
+        is = sym (w .passed ∙ rw (drop-of-length-le t) (simp append-nil));
+        left = sym (w .left ∙ rw (drop-of-length-le t));
+        fits = w .fits;
+      }
+
+-- what ends the field, and what follows it, at its length r
+
+module _ (t : List ℕ) (r : ℕ) where
+  pub comma-here : r < length t → eqb (getD t r 0) 44 ≡ startsComma (drop r t)
+  comma-here h = rw (drop-cons t r 0)
+
+  pub comma-none : length t ≤ r → false ≡ startsComma (drop r t)
+  comma-none h = rw (drop-of-length-le t)
+
+  pub after-field-here : take (length t - (r + 1)) (drop (r + 1) t) ≡ drop 1 (drop r t)
+  after-field-here = rest t (r + 1) ∙ sym (drop-drop 1 r t)
+
+  pub after-field-none : length t ≤ r → take (length t - r) (drop r t) ≡ drop 1 (drop r t)
+  after-field-none h = rest t r ∙ rw (drop-of-length-le t)
+
+-- the first two bytes of a text are a and b
+pub two-none : (t : List ℕ) (a b : ℕ) → length t < 2 → false ≡ same (take 2 t) (a ∷ b ∷ [])
+two-none t a b h = sym (same-length (take 2 t) (a ∷ b ∷ []) (λ e. omega (arith, length-take 2 t)))
+
+pub two-here : (t : List ℕ) (a b : ℕ) → 2 ≤ length t → (eqb (getD t 0 0) a && eqb (getD t 1 0) b) ≡ same (take 2 t) (a ∷ b ∷ [])
+two-here [] a b h = absurd (omega arith)
+two-here (x ∷ []) a b h = absurd (omega arith)
+two-here (x ∷ y ∷ t) a b h = ap (λ (z : Bool). eqb x a && z) (sym (and-true (eqb y b)))
+
+-- the sizes of a graphic
+
+-- one that is not negative keeps its value as a size
+pub size : (z : ℤ) → mag z < 2147483648 → ltZ z (pos 0) ≡ false → T (nonNeg z) × Fits w64 (natAbs z)
+size (pos n) h e = (tt, record { fits = omega arith })
+size (negsuc n) h e = let k : _≡_ {A = ℕ} 0 1 = cc in absurd (omega arith)
+
+pub total-fits : (a b : ℤ) → mag a < 2147483648 → mag b < 2147483648 → Fits w64 (natAbs a * natAbs b)
+total-fits a b p q =
+    let h : natAbs a * natAbs b ≤ 2147483648 * 2147483648 = mul-le-mul (natAbs-le a p) (natAbs-le b q) in
+    record { fits = omega arith }
+
+-- lengths
+
+pub drop-while-le : (q : ℕ → Bool) (s : List ℕ) → length (dropWhile q s) ≤ length s
+drop-while-le q [] = omega arith
+drop-while-le q (b ∷ s) = test (q b) (λ e. simp e (omega (arith, drop-while-le q s))) (λ e. simp e (omega arith))
+
+after-le : (t : List ℕ) → length (afterHeaderField t) ≤ length t
+unfolding afterHeaderField
+after-le t = simp length-drop (omega (arith, drop-while-le inField t))
+
+payload-after : (t : List ℕ) → length (payloadOf t) ≤ length t
+unfolding payloadOf
+payload-after t =
+    let u = afterHeaderField t in let v = afterHeaderField u in let w = afterHeaderField v in
+    omega (arith, after-le t, after-le u, after-le v, after-le w)
+
+pub payload-le : (s : List ℕ) → length (payloadOf (headerOf s)) ≤ length s
+payload-le s = omega (arith, payload-after (headerOf s), length-drop 2 (dropWhile isLineBlank s), drop-while-le isLineBlank s)
+
+-- behind `GW` it is shorter still
+payload-lt : (s : List ℕ) → opensGw s ≡ true → length (payloadOf (headerOf s)) < length s
+unfolding opensGw
+payload-lt s h =
+    let t = dropWhile isLineBlank s in
+    let e = ap length (same-true (take 2 t) (71 ∷ 87 ∷ []) h) in
+    omega (arith, payload-after (headerOf s), length-drop 2 t, length-take 2 t, drop-while-le isLineBlank s)
+
+-- where the data of a graphic lies
+
+refused-no-span : (n : Refusal) (g : GwSpan) → graphic.Refused n ≡ graphic.Span g → ⊥
+refused-no-span n g h = let z : _≡_ {A = ℕ} 0 1 = cc in omega arith
+
+pub record Lies (start left : ℕ) (g : GwSpan) : Type 0 where
+  pub at-start : g .«data_start» ≡ start
+  pub after-start : g .«data_start» ≤ g .«data_end»
+  pub inside : g .«data_end» ≤ start + left
+
+measured-lies : (n : GwNumbers) (start left : ℕ) (g : GwSpan) → measured n start left ≡ graphic.Span g → Lies start left g
+unfolding measured
+measured-lies n start left g h =
+    test (ltZ (n .«width_bytes») (pos 0) || ltZ (n .lines) (pos 0))
+    (λ a. absurd (refused-no-span refusal.GraphicNegative g (simp a at h)))
+    (λ a.
+    test (ltb left (total n))
+    (λ b. absurd (refused-no-span refusal.GraphicTruncated g (simp (a, b) at h)))
+    (λ b.
+    let e = simp (a, b) at h in
+    let k = ltb-false left (total n) b in
+    let g₀ : GwSpan = record { at = n .at; «width_bytes» = n .«width_bytes»; «data_start» = start; «data_end» = start + total n } in
+    let j : g₀ ≡ g = cc in
+    let x : start ≡ g .«data_start» = ap (λ (y : GwSpan). y .«data_start») j in
+    let y : start + total n ≡ g .«data_end» = ap (λ (y : GwSpan). y .«data_end») j in
+    record { at-start = sym x; after-start = omega arith; inside = omega arith }))
+
+pub record SpanFits (s : List ℕ) (g : GwSpan) : Type 0 where
+  pub start-le : g .«data_start» ≤ g .«data_end»
+  pub end-le : g .«data_end» ≤ length s
+  pub end-pos : 0 < g .«data_end»
+
+pub span-fits : (s : List ℕ) (g : GwSpan) → gwSpan s ≡ graphic.Span g → SpanFits s g
+unfolding gwSpan
+span-fits s g h =
+    test (opensGw s)
+    (λ o.
+    test (fourClosed (headerOf s))
+    (λ f.
+    let p = length (payloadOf (headerOf s)) in
+    let k = measured-lies (gwNumbers (headerOf s)) (length s - p) p g (simp (o, f) at h) in
+    let l = payload-lt s o in
+    record { start-le = k .after-start; end-le = omega arith; end-pos = omega arith })
+    (λ f. absurd (refused-no-span refusal.GraphicFields g (simp (o, f) at h))))
+    (λ o. let e = simp o at h in let z : _≡_ {A = ℕ} 0 1 = cc in absurd (omega arith))

@@ -1,0 +1,58 @@
+-- `graphics::gw_span::header_field_len` meets its contract. Invariant: `Within`, nothing but bytes of the field stands before i. Measure: t's length less i.
+-- Assumes nothing.
+use mathlib.Core.Path.{sym, refl, _∙_}
+use Prim.Native.Nat.{_-_}
+use lib.ListN.{length}
+use borrow.Author.Needs.{needs}
+use Rattle.graphics.proofs.BlockLaws.{Within, field-step, field-stop, field-end}
+use Rattle.graphics.proofs.gw_span.header_field_len.Statement.{statement}
+use Rattle.graphics.proofs.gw_span.header_field_len.Tie as tie
+
+abbrev Inv-loop : tie.InvT-loop
+Inv-loop t i₀ i = Within t i
+
+abbrev μ-loop : tie.MeasureT-loop
+μ-loop t i₀ i = length t - i
+
+loop-holds : tie.Need-loop-holds Inv-loop μ-loop
+loop-holds c = record { passed = refl; left = refl; fits = search needs }
+
+shared-slice-read-in-field : tie.Need-shared-slice-read-in-field Inv-loop μ-loop
+shared-slice-read-in-field c = search needs
+
+in-field-requires : tie.Need-in-field-requires Inv-loop μ-loop
+in-field-requires c κs = search needs
+
+add-i : tie.Need-add-i Inv-loop μ-loop
+add-i c = search needs
+
+loop-less : tie.Need-loop-less Inv-loop μ-loop
+loop-less c = search needs
+
+loop-again : tie.Need-loop-again Inv-loop μ-loop
+loop-again c =
+    let l = c .before .before .before .before in
+    field-step (l .before .before .args .t .now) (l .loop .i) (l .loop .inv) (search needs) (sym (c .before .in-field .ensures) ∙ c .if1 .taken)
+
+returns : tie.Need-returns Inv-loop μ-loop
+returns c =
+    let l = c .before .before .before .before in
+    field-stop (l .before .before .args .t .now) (l .loop .i) (l .loop .inv) (search needs) (sym (c .before .in-field .ensures) ∙ c .if1 .left)
+
+returns-2 : tie.Need-returns-2 Inv-loop μ-loop
+returns-2 c = field-end (c .before .before .before .args .t .now) (c .before .loop .i) (c .before .loop .inv) (c .loop-test .left)
+
+pub header-field-len-spec : {M : Type 1} → statement M
+header-field-len-spec =
+    tie.close
+    (tie.spec
+    Inv-loop
+    μ-loop
+    loop-holds
+    shared-slice-read-in-field
+    in-field-requires
+    add-i
+    loop-less
+    loop-again
+    returns
+    returns-2)

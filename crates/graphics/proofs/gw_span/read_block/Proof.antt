@@ -1,0 +1,46 @@
+-- `graphics::gw_span::read_block` meets its contract, arm by arm. `span-fits` gives what `graphic_at` requires.
+-- Assumes nothing.
+use mathlib.Core.Path.{sym, _∙_}
+use borrow.Author.Needs.{needs}
+use Rattle.graphics.proofs.BlockLaws.{span-fits}
+use Rattle.graphics.proofs.gw_span.read_block.Statement.{statement}
+use Rattle.graphics.proofs.gw_span.read_block.Tie as tie
+
+gw-span-requires : tie.Need-gw-span-requires
+gw-span-requires c κs = search needs
+
+enum-told : tie.Need-enum-told
+enum-told c = search needs
+
+enum-known-n : tie.Need-enum-known-n
+enum-known-n c = search needs
+
+enum-known-g : tie.Need-enum-known-g
+enum-known-g c = search needs
+
+graphic-at-requires : tie.Need-graphic-at-requires
+graphic-at-requires c κs =
+    let r = c .before .before .before in
+    span-fits (r .before .before .args .rest .now) (c .before .g .given .0 .0) (sym (r .gw-span .ensures) ∙ c .before .g .given .1) .start-le
+
+returns : tie.Need-returns
+returns c = simp (sym (c .before .before .gw-span .ensures) ∙ c .enum-told .given .1)
+
+returns-2 : tie.Need-returns-2
+returns-2 c = simp (sym (c .before .before .before .gw-span .ensures) ∙ c .before .n .given .1)
+
+returns-3 : tie.Need-returns-3
+returns-3 c = simp (c .graphic-at .ensures, sym (c .before .before .before .before .gw-span .ensures) ∙ c .before .before .g .given .1)
+
+pub read-block-spec : {M : Type 1} → statement M
+read-block-spec =
+    tie.close
+    (tie.spec
+    gw-span-requires
+    enum-told
+    enum-known-n
+    enum-known-g
+    graphic-at-requires
+    returns
+    returns-2
+    returns-3)

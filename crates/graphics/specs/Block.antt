@@ -1,0 +1,117 @@
+-- Graphic blocks (01, "Grammar"): "ASCII blanks other than LF (20, 09, 0c, 0d), `GW`, four fields each closed by a comma, no LF before the fourth comma,
+-- then width × lines bytes, neither negative".
+use mathlib.Core.Path.{_≡_}
+use Prim.Native.Nat.{ℕ, _+_, _-_, _*_, _≤_}
+use mathlib.Core.Bool.{Bool, true, false, cond, not, _&&_, _||_}
+use mathlib.Core.List.{List, [], _∷_}
+use lib.Dec.{eqb, ltb}
+use lib.IntN.{ℤ, pos, natAbs}
+use lib.ListN.{length, take, drop}
+use lib.Signed.{ltZ}
+use Rattle.text.specs.Blank.{dropWhile, front}
+use Rattle.text.specs.Fields.{same}
+use Rattle.text.specs.Number.{fieldOr}
+use Rattle.elements.specs.declared.label_element.LabelElement.the-variants as element
+use Rattle.elements.specs.declared.label_position.LabelPosition.{LabelPosition}
+use Rattle.elements.specs.declared.refusal.Refusal.the-variants as refusal
+use Rattle.graphics.specs.declared.gw_span.Block.{Block}
+use Rattle.graphics.specs.declared.gw_span.Block.the-variants as block
+use Rattle.graphics.specs.declared.gw_span.Graphic.{Graphic}
+use Rattle.graphics.specs.declared.gw_span.Graphic.the-variants as graphic
+use Rattle.graphics.specs.declared.gw_span.GwNumbers.{GwNumbers}
+use Rattle.graphics.specs.declared.gw_span.GwSpan.{GwSpan}
+use Rattle.parameters.specs.declared.position.Placed.{Placed}
+use Rattle.parameters.specs.declared.position.Placed.the-variants as placing
+use Rattle.parameters.specs.Position.{placed}
+
+-- an ASCII blank other than LF
+abbrev pub isLineBlank : ℕ → Bool
+isLineBlank b = eqb b 0x20 || eqb b 0x09 || eqb b 0x0c || eqb b 0x0d
+
+-- what follows its leading blanks begins with `GW`
+unfoldable pub opensGw : List ℕ → Bool
+opensGw s = same (take 2 (dropWhile isLineBlank s)) (71 ∷ 87 ∷ [])
+
+-- a byte within a header field
+abbrev pub inField : ℕ → Bool
+inField b = not (eqb b 44) && not (eqb b 10)
+
+-- a comma, and no LF, ends the first header field
+abbrev pub startsComma : List ℕ → Bool
+startsComma [] = false
+startsComma (b ∷ s) = eqb b 44
+
+unfoldable pub closes : List ℕ → Bool
+closes t = startsComma (dropWhile inField t)
+
+-- what follows the byte that ends it
+unfoldable pub afterHeaderField : List ℕ → List ℕ
+afterHeaderField t = drop 1 (dropWhile inField t)
+
+-- its number, 0 by default
+unfoldable pub headerNumber : List ℕ → ℤ
+headerNumber t = fieldOr (pos 0) (front inField t)
+
+-- "four fields each closed by a comma, no LF before the fourth comma"
+unfoldable pub fourClosed : List ℕ → Bool
+fourClosed t =
+    closes t && closes (afterHeaderField t) && closes (afterHeaderField (afterHeaderField t))
+    && closes (afterHeaderField (afterHeaderField (afterHeaderField t)))
+
+-- what follows the fourth
+unfoldable pub payloadOf : List ℕ → List ℕ
+payloadOf t = afterHeaderField (afterHeaderField (afterHeaderField (afterHeaderField t)))
+
+-- "`GW`: x, y, width in bytes (the row bytes), lines"
+unfoldable pub gwNumbers : List ℕ → GwNumbers
+gwNumbers t =
+    record {
+      at = record { x = headerNumber t; y = headerNumber (afterHeaderField t) };
+      «width_bytes» = headerNumber (afterHeaderField (afterHeaderField t));
+      lines = headerNumber (afterHeaderField (afterHeaderField (afterHeaderField t)));
+    }
+
+-- the bytes of a payload
+abbrev pub total : GwNumbers → ℕ
+total n = natAbs (n .«width_bytes») * natAbs (n .lines)
+
+-- a payload that stands at start, where left bytes are left: "11 negative, 12 payload passes the end"
+unfoldable pub measured : GwNumbers → ℕ → ℕ → Graphic
+measured n start left =
+    cond (ltZ (n .«width_bytes») (pos 0) || ltZ (n .lines) (pos 0)) (graphic.Refused refusal.GraphicNegative)
+    (cond (ltb left (total n)) (graphic.Refused refusal.GraphicTruncated)
+    (graphic.Span (record { at = n .at; «width_bytes» = n .«width_bytes»; «data_start» = start; «data_end» = start + total n })))
+
+-- the header of a graphic that stands first, behind its `GW`
+abbrev pub headerOf : List ℕ → List ℕ
+headerOf s = drop 2 (dropWhile isLineBlank s)
+
+-- the graphic that stands first in s, or 10, 11, 12; places are counted from its first byte
+unfoldable pub gwSpan : List ℕ → Graphic
+gwSpan s =
+    cond (opensGw s)
+    (cond (fourClosed (headerOf s))
+    (measured (gwNumbers (headerOf s)) (length s - length (payloadOf (headerOf s))) (length (payloadOf (headerOf s))))
+    (graphic.Refused refusal.GraphicFields))
+    graphic.Nothing
+
+abbrev pub graphicPlaced : GwSpan → Placed → Block
+graphicPlaced g (placing.At p) =
+    block.Element (g .«data_end»)
+    (element.GraphicField (record { position = p; «row_bytes» = g .«width_bytes»; «data» = record { start = g .«data_start»; len = g .«data_end» - g .«data_start» } }))
+graphicPlaced g placing.Outside = block.Refused refusal.OutOfRange
+
+unfoldable pub graphicAt : GwSpan → LabelPosition → Block
+graphicAt g r = graphicPlaced g (placed (g .at .x) (g .at .y) r)
+
+-- the block at a reference: its size with its element, or 13
+abbrev pub blockReading : Graphic → LabelPosition → Block
+blockReading graphic.Nothing r = block.Nothing
+blockReading (graphic.Refused n) r = block.Refused n
+blockReading (graphic.Span g) r = graphicAt g r
+
+-- what `header_field_len` answers: how far the first header field goes
+pub record FieldLen (t : List ℕ) (r : ℕ) : Type 0 where
+  pub is : take r t ≡ front inField t
+  pub left : drop r t ≡ dropWhile inField t
+  pub fits : r ≤ length t

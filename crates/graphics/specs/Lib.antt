@@ -1,0 +1,2 @@
+-- 01, "Grammar": graphic blocks
+pub mod Block

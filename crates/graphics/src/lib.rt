@@ -1,0 +1,2 @@
+// `GW`: graphic blocks.
+pub mod gw_span;

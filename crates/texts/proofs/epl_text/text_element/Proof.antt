@@ -1,0 +1,90 @@
+-- `texts::epl_text::text_element` meets its contract: its position and its font decide, and 13 is the answer where either has none.
+-- Assumes nothing.
+use mathlib.Core.Path.{_≡_, refl, sym, _∙_}
+use Rattle.text.proofs.IntLaws.{back32}
+use Rattle.elements.specs.declared.data_span.DataSpan.{DataSpan}
+use Rattle.elements.specs.declared.refusal.Refusal.the-variants.{OutOfRange}
+use Rattle.parameters.specs.declared.position.Placed.the-variants as placing
+use Rattle.parameters.specs.declared.reading.Reading.the-variants.{Refused}
+use Rattle.parameters.specs.Position.{placed}
+use Rattle.texts.specs.declared.epl_text.TextFields.{TextFields}
+use Rattle.texts.specs.declared.fonts.Scaled.{Scaled}
+use Rattle.texts.specs.declared.fonts.Scaled.the-variants as scaled
+use Rattle.texts.specs.Font.{fontOf}
+use Rattle.texts.specs.Text.{textOf, textElement}
+use borrow.Author.Needs.{needs}
+use Rattle.texts.proofs.epl_text.text_element.Statement.{statement}
+use Rattle.texts.proofs.epl_text.text_element.Tie as tie
+
+text-outside : (f : TextFields) (d : DataSpan) (i : Scaled) → textOf f d i placing.Outside ≡ Refused OutOfRange
+text-outside f d (scaled.Font i) = refl
+text-outside f d scaled.Outside = refl
+
+abbrev start : tie.After-place → tie.Start
+start d = d .before .before .before .before .before
+
+stands : (d : tie.After-place) → d .place .result ≡ placed (start d .args .f .at .x) (start d .args .f .at .y) (start d .args .reference)
+stands d =
+    let p = start d .args .f .at in
+    simp (back32 (p .x) (d .before .before .struct-told .given .0 .1), back32 (p .y) (d .before .struct-told2 .given .1 .0 .1)) at (d .place .ensures)
+
+abbrev at-place : tie.After-font-info → tie.After-place
+at-place d = d .before .before .before .before .before .before .before .before
+
+looks : (d : tie.After-font-info) → let f = start (at-place d) .args .f in d .font-info .result ≡ fontOf (f .font) (f .scale .«h_mult») (f .scale .«v_mult») (f .rotation)
+looks d =
+    let f = start (at-place d) .args .f in
+    simp (
+      back32 (f .font) (d .before .before .before .before .struct-told3 .given .1 .1 .0 .1),
+      back32 (f .scale .«h_mult») (d .before .before .before .struct-told4 .given .0 .1),
+      back32 (f .scale .«v_mult») (d .before .before .struct-told5 .given .1 .0 .1),
+      back32 (f .rotation) (d .before .struct-told6 .given .1 .0 .1),
+    )
+    at (d .font-info .ensures)
+
+place-requires : tie.Need-place-requires
+place-requires c κs = search needs
+
+enum-known-position : tie.Need-enum-known-position
+enum-known-position c = search needs
+
+enum-told : tie.Need-enum-told
+enum-told c = search needs
+
+returns : tie.Need-returns
+unfolding textElement
+returns c = simp (sym (stands (c .before .before)) ∙ c .enum-told .given .1, text-outside)
+
+font-info-requires : tie.Need-font-info-requires
+font-info-requires c κs = search needs
+
+enum-known-font : tie.Need-enum-known-font
+enum-known-font c = search needs
+
+enum-told-2 : tie.Need-enum-told-2
+enum-told-2 c = search needs
+
+returns-2 : tie.Need-returns-2
+unfolding textElement
+returns-2 c = simp (sym (looks (c .before .before)) ∙ c .enum-told2 .given .1)
+
+returns-3 : tie.Need-returns-3
+unfolding textElement
+returns-3 c =
+    let i = c .before .before .before in
+    let p = at-place i in
+    simp (sym (looks i) ∙ c .before .font .given .1, sym (stands p) ∙ i .before .before .before .before .before .before .position .given .1)
+
+pub text-element-spec : {M : Type 1} → statement M
+text-element-spec =
+    tie.close
+    (tie.spec
+    place-requires
+    enum-known-position
+    enum-told
+    returns
+    font-info-requires
+    enum-known-font
+    enum-told-2
+    returns-2
+    returns-3)

@@ -1,0 +1,50 @@
+-- `A` (01, "Grammar"): "x, y, rotation, font, horizontal multiplier, vertical multiplier, reverse (flag 1 if exactly `R`, blanks off)".
+use Prim.Native.Nat.{ℕ}
+use mathlib.Core.Bool.{cond}
+use mathlib.Core.List.{List}
+use lib.Dec.{ltb}
+use lib.IntN.{pos}
+use lib.ListN.{length}
+use Rattle.text.specs.Fields.{after, fields}
+use Rattle.elements.specs.declared.data_span.DataSpan.{DataSpan}
+use Rattle.elements.specs.declared.label_element.LabelElement.the-variants as element
+use Rattle.elements.specs.declared.label_position.LabelPosition.{LabelPosition}
+use Rattle.elements.specs.declared.refusal.Refusal.the-variants as refusal
+use Rattle.texts.specs.declared.fonts.Scaled.{Scaled}
+use Rattle.texts.specs.declared.fonts.Scaled.the-variants as scaled
+use Rattle.parameters.specs.declared.position.Placed.{Placed}
+use Rattle.parameters.specs.declared.position.Placed.the-variants as placing
+use Rattle.parameters.specs.declared.reading.Reading.{Reading}
+use Rattle.parameters.specs.declared.reading.Reading.the-variants as reading
+use Rattle.texts.specs.declared.epl_text.Scale.{Scale}
+use Rattle.texts.specs.declared.epl_text.TextFields.{TextFields}
+use Rattle.texts.specs.Font.{fontOf}
+use Rattle.parameters.specs.Params.{numberAt, sizeAt, pointAt, exactly}
+use Rattle.parameters.specs.Position.{placed, yields}
+
+-- the multipliers, 1 by default and at least, and the reverse flag
+unfoldable pub scaleAt : List ℕ → Scale
+scaleAt s = record { «h_mult» = sizeAt (pos 1) s; «v_mult» = sizeAt (pos 1) (after 44 s); reverse = exactly 82 (after 44 (after 44 s)) }
+
+-- the seven fields; the font's default is 1
+unfoldable pub textFields : List ℕ → TextFields
+textFields s =
+    record {
+      at = pointAt s;
+      rotation = numberAt (pos 0) (after 44 (after 44 s));
+      font = numberAt (pos 1) (after 44 (after 44 (after 44 s)));
+      scale = scaleAt (after 44 (after 44 (after 44 (after 44 s))));
+    }
+
+-- the text at its position, or 13
+abbrev pub textOf : TextFields → DataSpan → Scaled → Placed → Reading
+textOf f d (scaled.Font i) p = yields p λ at. element.Text (record { position = at; «reverse_print» = f .scale .reverse; font = i; text = d })
+textOf f d scaled.Outside p = reading.Refused refusal.OutOfRange
+
+unfoldable pub textElement : TextFields → DataSpan → LabelPosition → Reading
+textElement f d r =
+    textOf f d (fontOf (f .font) (f .scale .«h_mult») (f .scale .«v_mult») (f .rotation)) (placed (f .at .x) (f .at .y) r)
+
+-- "number at least 7", or 1
+unfoldable pub textReading : List ℕ → DataSpan → LabelPosition → Reading
+textReading s d r = cond (ltb (length (fields s)) 7) (reading.Refused refusal.TextFields) (textElement (textFields s) d r)

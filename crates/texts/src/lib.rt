@@ -1,0 +1,3 @@
+// `A`: fonts and text.
+pub mod epl_text;
+pub mod fonts;
