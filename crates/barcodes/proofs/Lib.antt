@@ -1,0 +1,3 @@
+pub mod BarcodeLaws
+pub mod RatioLaws
+mod Cases

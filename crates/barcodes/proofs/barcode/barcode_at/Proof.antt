@@ -1,0 +1,70 @@
+-- `barcodes::barcode::barcode_at` meets its contract: the type decides, then the position.
+-- Assumes nothing.
+use mathlib.Core.Path.{_≡_, sym, _∙_}
+use mathlib.Core.Bool.{true, false}
+use borrow.Author.Tests.{not-true, not-false}
+use Rattle.text.proofs.IntLaws.{back32}
+use Rattle.parameters.specs.Position.{placed}
+use Rattle.barcodes.specs.Barcode.{isListed, barcodeAt}
+use borrow.Author.Needs.{needs}
+use Rattle.barcodes.proofs.barcode.barcode_at.Statement.{statement}
+use Rattle.barcodes.proofs.barcode.barcode_at.Tie as tie
+
+listed : (d : tie.Else1) → isListed (d .before .before .before .before .args .f .symbology) ≡ true
+listed d = sym (d .before .is-listed .ensures) ∙ not-false (d .before .is-listed .result) (d .if1 .left)
+
+at : (d : tie.After-place)
+    → d .place .result ≡ placed (d .before .before .before .before .before .before .before .args .f .at .x) (d .before .before .before .before .before .before .before .args .f .at .y) (d .before .before .before .before .before .before .before .args .reference)
+at d =
+    let p = d .before .before .before .before .before .before .before .args .f .at in
+    simp (back32 (p .x) (d .before .before .struct-told .given .0 .1), back32 (p .y) (d .before .struct-told2 .given .1 .0 .1)) at (d .place .ensures)
+
+is-listed-requires : tie.Need-is-listed-requires
+is-listed-requires c κs = search needs
+
+returns : tie.Need-returns
+unfolding barcodeAt
+returns c = simp (sym (c .before .is-listed .ensures) ∙ not-true (c .before .is-listed .result) (c .if1 .taken))
+
+place-requires : tie.Need-place-requires
+place-requires c κs = search needs
+
+enum-known-position : tie.Need-enum-known-position
+enum-known-position c = search needs
+
+enum-told : tie.Need-enum-told
+enum-told c = search needs
+
+returns-2 : tie.Need-returns-2
+unfolding barcodeAt
+returns-2 c =
+    let d = c .before .before in
+    simp (listed (d .before .before .before), sym (at d) ∙ c .enum-told .given .1)
+
+epl-rotation-requires : tie.Need-epl-rotation-requires
+epl-rotation-requires c κs = search needs
+
+barcode-element-requires : tie.Need-barcode-element-requires
+barcode-element-requires c κs = search needs
+
+returns-3 : tie.Need-returns-3
+unfolding barcodeAt
+returns-3 c =
+    let d = c .before .before .before .before .before .before in
+    let f = d .before .before .before .before .before .before .before .args .f in
+    simp (listed (d .before .before .before), sym (at d) ∙ c .before .before .before .before .position .given .1)
+    (simp (c .before .epl-rotation .ensures, back32 (f .rotation) (c .before .before .struct-told3 .given .1 .0 .1)) at (c .barcode-element .ensures))
+
+pub barcode-at-spec : {M : Type 1} → statement M
+barcode-at-spec =
+    tie.close
+    (tie.spec
+    is-listed-requires
+    returns
+    place-requires
+    enum-known-position
+    enum-told
+    returns-2
+    epl-rotation-requires
+    barcode-element-requires
+    returns-3)

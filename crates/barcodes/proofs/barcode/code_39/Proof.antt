@@ -1,0 +1,22 @@
+-- `barcodes::barcode::code_39` meets its contract: the bars are read back from their bits, and the ratio is that of `bar_ratio`.
+-- Assumes nothing.
+use borrow.Author.Needs.{needs}
+use Rattle.text.proofs.IntLaws.{back32}
+use Rattle.barcodes.specs.Barcode.{code39}
+use Rattle.barcodes.proofs.barcode.code_39.Statement.{statement}
+use Rattle.barcodes.proofs.barcode.code_39.Tie as tie
+
+bar-ratio-requires : tie.Need-bar-ratio-requires
+bar-ratio-requires c κs = search needs
+
+returns : tie.Need-returns
+unfolding code39
+returns c =
+    let told = c .before .before .before .before .struct-told .given in
+    let bars = c .before .before .before .before .before .before .before .before .args .b .bars in
+    let narrow = back32 (bars .narrow) (told .0 .1) in
+    let wide = back32 (bars .wide) (told .1 .0 .1) in
+    rw (back32 (bars .height) (told .1 .1 .0 .1), narrow, simp (narrow, wide) at (c .before .bar-ratio .ensures))
+
+pub code-39-spec : {M : Type 1} → statement M
+code-39-spec = tie.close (tie.spec bar-ratio-requires returns)

@@ -1,0 +1,15 @@
+-- `barcodes::barcode::upc_a` meets its contract: height and narrow bar are read back from their bits.
+-- Assumes nothing.
+use Rattle.text.proofs.IntLaws.{back32}
+use Rattle.barcodes.specs.Barcode.{upcA}
+use Rattle.barcodes.proofs.barcode.upc_a.Statement.{statement}
+use Rattle.barcodes.proofs.barcode.upc_a.Tie as tie
+
+returns : tie.Need-returns
+unfolding upcA
+returns c =
+    let bars = c .before .before .before .before .before .args .b .bars in
+    rw (back32 (bars .height) (c .before .struct-told .given .1 .1 .0 .1), back32 (bars .narrow) (c .struct-told2 .given .0 .1))
+
+pub upc-a-spec : {M : Type 1} → statement M
+upc-a-spec = tie.close (tie.spec returns)

@@ -1,0 +1,15 @@
+-- `barcodes::barcode::upc_e` meets its contract: height and narrow bar are read back from their bits.
+-- Assumes nothing.
+use Rattle.text.proofs.IntLaws.{back32}
+use Rattle.barcodes.specs.Barcode.{upcE}
+use Rattle.barcodes.proofs.barcode.upc_e.Statement.{statement}
+use Rattle.barcodes.proofs.barcode.upc_e.Tie as tie
+
+returns : tie.Need-returns
+unfolding upcE
+returns c =
+    let bars = c .before .before .before .before .before .args .b .bars in
+    rw (back32 (bars .height) (c .before .struct-told .given .1 .1 .0 .1), back32 (bars .narrow) (c .struct-told2 .given .0 .1))
+
+pub upc-e-spec : {M : Type 1} → statement M
+upc-e-spec = tie.close (tie.spec returns)

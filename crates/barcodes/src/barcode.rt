@@ -1,0 +1,388 @@
+// `B`: bar codes. Fields: x, y, rotation, type, narrow bar, wide bar, bar height, line.
+ghost use mathlib.Core.Path.{_≡_};
+ghost use Rattle.barcodes.specs.Barcode.{oneLetter, code128Letter, twoLetters, threeLetters, symbologyOf, isListed, barsAt, barcodeFields, code128, interleaved, code39, ean13, ean8, upcA, upcE, barcodeElement, barcodeAt, barcodeReading};
+use crate::ratio::bar_ratio;
+use elements::barcode_2of5::Barcode2of5;
+use elements::barcode_2of5::Barcode2of5WithData;
+use elements::barcode_39::Barcode39;
+use elements::barcode_39::Barcode39WithData;
+use elements::barcode_128::Barcode128;
+use elements::barcode_128::Barcode128WithData;
+use elements::barcode_128::BarcodeMode;
+use elements::barcode_ean8::BarcodeEan8;
+use elements::barcode_ean8::BarcodeEan8WithData;
+use elements::barcode_ean13::BarcodeEan13;
+use elements::barcode_ean13::BarcodeEan13WithData;
+use elements::barcode_upca::BarcodeUca;
+use elements::barcode_upca::BarcodeUcaWithData;
+use elements::barcode_upce::BarcodeUcpe;
+use elements::barcode_upce::BarcodeUcpeWithData;
+use elements::data_span::DataSpan;
+use elements::field_orientation::FieldOrientation;
+use elements::label_element::LabelElement;
+use elements::label_position::LabelPosition;
+use elements::refusal::Refusal;
+use parameters::params::after_two;
+use parameters::params::is_exactly;
+use parameters::params::number_at;
+use parameters::params::point_at;
+use parameters::params::size_at;
+use parameters::params::type_at;
+use parameters::position::Placed;
+use parameters::position::place;
+use parameters::reading::Reading;
+use parameters::rotation::epl_rotation;
+use text::fields::after_field;
+use text::fields::field_count;
+
+// What the fourth field says.
+pub enum Symbology {
+    Code128(BarcodeMode),
+    // With a check digit, or without.
+    Interleaved(bool),
+    Code39(bool),
+    Ean13,
+    Ean8,
+    UpcA,
+    UpcE,
+    Unlisted,
+}
+
+// Types of one character.
+pub fn one_letter(a: u8) -> Symbology
+    ensures { λ r. ⌜ r ≡ oneLetter a ⌝ }
+{
+    match a {
+        b'0' => Symbology::Code128(BarcodeMode::Ucc),
+        b'1' => Symbology::Code128(BarcodeMode::Automatic),
+        b'2' => Symbology::Interleaved(false),
+        b'3' => Symbology::Code39(false),
+        _ => Symbology::Unlisted,
+    }
+}
+
+// Of two, the first of which is 1: `1A`, `1B`, `1C`, `1E`.
+pub fn code_128_letter(b: u8) -> Symbology
+    ensures { λ r. ⌜ r ≡ code128Letter b ⌝ }
+{
+    if (b == b'A') | (b == b'B') | (b == b'C') {
+        return Symbology::Code128(BarcodeMode::Automatic);
+    }
+    if b == b'E' {
+        return Symbology::Code128(BarcodeMode::Ean);
+    }
+    Symbology::Unlisted
+}
+
+// Of two: those and `2C`, `2D`, `3C`.
+pub fn two_letters(a: u8, b: u8) -> Symbology
+    ensures { λ r. ⌜ r ≡ twoLetters a b ⌝ }
+{
+    if a == b'1' {
+        return code_128_letter(b);
+    }
+    if (a == b'2') & ((b == b'C') | (b == b'D')) {
+        return Symbology::Interleaved(true);
+    }
+    if (a == b'3') & (b == b'C') {
+        return Symbology::Code39(true);
+    }
+    Symbology::Unlisted
+}
+
+// Of three: `E30`, `E80`, `UA0`, `UE0`.
+pub fn three_letters(a: u8, b: u8, c: u8) -> Symbology
+    ensures { λ r. ⌜ r ≡ threeLetters a b c ⌝ }
+{
+    if (a == b'E') & (b == b'3') & (c == b'0') {
+        return Symbology::Ean13;
+    }
+    if (a == b'E') & (b == b'8') & (c == b'0') {
+        return Symbology::Ean8;
+    }
+    if (a == b'U') & (b == b'A') & (c == b'0') {
+        return Symbology::UpcA;
+    }
+    if (a == b'U') & (b == b'E') & (c == b'0') {
+        return Symbology::UpcE;
+    }
+    Symbology::Unlisted
+}
+
+// The type that t spells.
+pub fn symbology_of(t: &[u8]) -> Symbology
+    ensures { λ r. ⌜ r ≡ symbologyOf (now (t .entry)) ⌝ }
+{
+    if t.len() == 1 {
+        return one_letter(t[0]);
+    }
+    if t.len() == 2 {
+        return two_letters(t[0], t[1]);
+    }
+    if t.len() == 3 {
+        return three_letters(t[0], t[1], t[2]);
+    }
+    Symbology::Unlisted
+}
+
+pub fn is_listed(s: Symbology) -> bool
+    ensures { λ r. ⌜ r ≡ isListed s ⌝ }
+{
+    match s {
+        Symbology::Unlisted => false,
+        _ => true,
+    }
+}
+
+pub struct Bars {
+    pub narrow: i32,
+    pub wide: i32,
+    pub height: i32,
+    pub line: bool,
+}
+
+// The fifth field on: bars and line.
+pub fn bars_at(s: &[u8]) -> Bars
+    ensures { λ r. ⌜ r ≡ barsAt (now (s .entry)) ⌝ }
+{
+    let narrow = size_at(s, 1);
+    let t = after_field(s);
+    let wide = number_at(t, 2);
+    let u = after_field(t);
+    let height = size_at(u, 10);
+    let line = is_exactly(after_field(u), b'B');
+    Bars {
+        narrow,
+        wide,
+        height,
+        line,
+    }
+}
+
+pub struct BarcodeFields {
+    pub at: LabelPosition,
+    pub rotation: i32,
+    pub symbology: Symbology,
+    pub bars: Bars,
+}
+
+pub fn barcode_fields(s: &[u8]) -> BarcodeFields
+    ensures { λ r. ⌜ r ≡ barcodeFields (now (s .entry)) ⌝ }
+{
+    let at = point_at(s);
+    let t = after_two(s);
+    let rotation = number_at(t, 0);
+    let u = after_field(t);
+    let symbology = symbology_of(type_at(u));
+    let bars = bars_at(after_field(u));
+    BarcodeFields {
+        at,
+        rotation,
+        symbology,
+        bars,
+    }
+}
+
+// What a bar code of any type has.
+pub struct Barcode {
+    pub orientation: FieldOrientation,
+    pub bars: Bars,
+    pub position: LabelPosition,
+    pub data: DataSpan,
+}
+
+// Code 128.
+pub fn code_128(mode: BarcodeMode, b: Barcode) -> Reading
+    ensures { λ r. ⌜ r ≡ code128 mode b ⌝ }
+{
+    let orientation = b.orientation;
+    let bars = b.bars;
+    let position = b.position;
+    let data = b.data;
+    Reading::Element(LabelElement::Barcode128(Barcode128WithData {
+        barcode: Barcode128 {
+            orientation,
+            height: bars.height,
+            line: bars.line,
+            mode,
+        },
+        width: bars.narrow,
+        position,
+        data,
+    }))
+}
+
+// 2 of 5, with a check digit or without.
+pub fn interleaved(check: bool, b: Barcode) -> Reading
+    ensures { λ r. ⌜ r ≡ interleaved check b ⌝ }
+{
+    let orientation = b.orientation;
+    let bars = b.bars;
+    let position = b.position;
+    let data = b.data;
+    Reading::Element(LabelElement::Barcode2of5(Barcode2of5WithData {
+        barcode: Barcode2of5 {
+            orientation,
+            height: bars.height,
+            line: bars.line,
+            check_digit: check,
+        },
+        width: bars.narrow,
+        width_ratio: bar_ratio(bars.wide, bars.narrow),
+        position,
+        data,
+    }))
+}
+
+// Code 39, with a check digit or without.
+pub fn code_39(check: bool, b: Barcode) -> Reading
+    ensures { λ r. ⌜ r ≡ code39 check b ⌝ }
+{
+    let orientation = b.orientation;
+    let bars = b.bars;
+    let position = b.position;
+    let data = b.data;
+    Reading::Element(LabelElement::Barcode39(Barcode39WithData {
+        barcode: Barcode39 {
+            orientation,
+            height: bars.height,
+            line: bars.line,
+            check_digit: check,
+        },
+        width: bars.narrow,
+        width_ratio: bar_ratio(bars.wide, bars.narrow),
+        position,
+        data,
+    }))
+}
+
+// EAN-13.
+pub fn ean_13(b: Barcode) -> Reading
+    ensures { λ r. ⌜ r ≡ ean13 b ⌝ }
+{
+    let orientation = b.orientation;
+    let bars = b.bars;
+    let position = b.position;
+    let data = b.data;
+    Reading::Element(LabelElement::BarcodeEan13(BarcodeEan13WithData {
+        barcode: BarcodeEan13 {
+            orientation,
+            height: bars.height,
+            line: bars.line,
+        },
+        width: bars.narrow,
+        position,
+        data,
+    }))
+}
+
+// EAN-8.
+pub fn ean_8(b: Barcode) -> Reading
+    ensures { λ r. ⌜ r ≡ ean8 b ⌝ }
+{
+    let orientation = b.orientation;
+    let bars = b.bars;
+    let position = b.position;
+    let data = b.data;
+    Reading::Element(LabelElement::BarcodeEan8(BarcodeEan8WithData {
+        barcode: BarcodeEan8 {
+            orientation,
+            height: bars.height,
+            line: bars.line,
+        },
+        width: bars.narrow,
+        position,
+        data,
+    }))
+}
+
+// UPC-A.
+pub fn upc_a(b: Barcode) -> Reading
+    ensures { λ r. ⌜ r ≡ upcA b ⌝ }
+{
+    let orientation = b.orientation;
+    let bars = b.bars;
+    let position = b.position;
+    let data = b.data;
+    Reading::Element(LabelElement::BarcodeUca(BarcodeUcaWithData {
+        barcode: BarcodeUca {
+            orientation,
+            height: bars.height,
+            line: bars.line,
+        },
+        width: bars.narrow,
+        position,
+        data,
+    }))
+}
+
+// UPC-E.
+pub fn upc_e(b: Barcode) -> Reading
+    ensures { λ r. ⌜ r ≡ upcE b ⌝ }
+{
+    let orientation = b.orientation;
+    let bars = b.bars;
+    let position = b.position;
+    let data = b.data;
+    Reading::Element(LabelElement::BarcodeUcpe(BarcodeUcpeWithData {
+        barcode: BarcodeUcpe {
+            orientation,
+            height: bars.height,
+            line: bars.line,
+        },
+        width: bars.narrow,
+        position,
+        data,
+    }))
+}
+
+// The bar code of a listed type.
+pub fn barcode_element(s: Symbology, b: Barcode) -> Reading
+    ensures { λ r. ⌜ r ≡ barcodeElement s b ⌝ }
+{
+    match s {
+        Symbology::Code128(mode) => code_128(mode, b),
+        Symbology::Interleaved(check) => interleaved(check, b),
+        Symbology::Code39(check) => code_39(check, b),
+        Symbology::Ean13 => ean_13(b),
+        Symbology::Ean8 => ean_8(b),
+        Symbology::UpcA => upc_a(b),
+        Symbology::UpcE => upc_e(b),
+        Symbology::Unlisted => Reading::Refused(Refusal::BarcodeType),
+    }
+}
+
+// The bar code at a reference: 7, then 13.
+pub fn barcode_at(f: BarcodeFields, span: DataSpan, reference: LabelPosition) -> Reading
+    ensures { λ r. ⌜ r ≡ barcodeAt f span reference ⌝ }
+{
+    let s = f.symbology;
+    let at = f.at;
+    let bars = f.bars;
+    if !is_listed(s) {
+        return Reading::Refused(Refusal::BarcodeType);
+    }
+    let Placed::At(position) = place(at.x, at.y, reference) else {
+        return Reading::Refused(Refusal::OutOfRange);
+    };
+    let orientation = epl_rotation(f.rotation);
+    barcode_element(
+        s,
+        Barcode {
+            orientation,
+            bars,
+            position,
+            data: span,
+        },
+    )
+}
+
+// A line's parameters and data, at a reference.
+pub fn parse_epl_barcode(params: &[u8], span: DataSpan, reference: LabelPosition) -> Reading
+    ensures { λ r. ⌜ r ≡ barcodeReading (now (params .entry)) span reference ⌝ }
+{
+    if field_count(params) < 8 {
+        return Reading::Refused(Refusal::BarcodeFields);
+    }
+    barcode_at(barcode_fields(params), span, reference)
+}

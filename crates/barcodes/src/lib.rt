@@ -1,0 +1,3 @@
+// `B`: bar codes.
+pub mod barcode;
+pub mod ratio;

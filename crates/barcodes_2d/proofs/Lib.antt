@@ -1,0 +1,5 @@
+pub mod OptionsLaws
+pub mod Barcode2dLaws
+pub mod Cases
+pub mod MaxicodeLaws
+pub mod MaxicodeCases

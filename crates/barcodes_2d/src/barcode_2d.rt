@@ -1,0 +1,320 @@
+// `b`: 2D bar codes. Fields: x, y, type, parameters.
+ghost use mathlib.Core.Path.{_≡_};
+ghost use Rattle.barcodes_2d.specs.Barcode2d.{symbologyOf, aztecSize, aztecOf, datamatrixOf, modeOf, pdf417ModuleWidth, pdf417RowHeight, pdf417Truncate, pdf417Of, levelOf, qrOf, aztecReading, datamatrixReading, maxicodeReading, pdf417Reading, qrReading, barcode2dAt, barcode2dReading};
+use crate::maxicode::auto_maxicode_mode;
+use crate::options::Wanted;
+use crate::options::last;
+use crate::options::last_clamped;
+use crate::options::last_count;
+use crate::options::last_number;
+use elements::barcode_aztec::BarcodeAztec;
+use elements::barcode_aztec::BarcodeAztecWithData;
+use elements::barcode_datamatrix::BarcodeDatamatrix;
+use elements::barcode_datamatrix::BarcodeDatamatrixWithData;
+use elements::barcode_pdf417::BarcodePdf417;
+use elements::barcode_pdf417::BarcodePdf417WithData;
+use elements::barcode_qr::BarcodeQr;
+use elements::barcode_qr::BarcodeQrWithData;
+use elements::barcode_qr::QrErrorCorrectionLevel;
+use elements::data_span::DataSpan;
+use elements::label_element::LabelElement;
+use elements::label_position::LabelPosition;
+use elements::maxicode::Maxicode;
+use elements::maxicode::MaxicodeWithData;
+use elements::refusal::Refusal;
+use parameters::params::after_two;
+use parameters::params::point_at;
+use parameters::params::type_at;
+use parameters::position::Placed;
+use parameters::position::place;
+use parameters::reading::Reading;
+use parameters::rotation::epl_rotation;
+use text::fields::after_field;
+use text::fields::field_count;
+use text::utf8::decoded_len;
+
+pub enum Symbology2d {
+    Aztec,
+    Datamatrix,
+    Maxicode,
+    Pdf417,
+    Qr,
+    Unlisted,
+}
+
+// The type that t spells: `A`, `D`, `M`, `P`, `Q`.
+pub fn symbology_of(t: &[u8]) -> Symbology2d
+    ensures { λ r. ⌜ r ≡ symbologyOf (now (t .entry)) ⌝ }
+{
+    if t.len() != 1 {
+        return Symbology2d::Unlisted;
+    }
+    let a = t[0];
+    match a {
+        b'A' => Symbology2d::Aztec,
+        b'D' => Symbology2d::Datamatrix,
+        b'M' => Symbology2d::Maxicode,
+        b'P' => Symbology2d::Pdf417,
+        b'Q' => Symbology2d::Qr,
+        _ => Symbology2d::Unlisted,
+    }
+}
+
+// 1 to 99 error correction, 101 to 104 compact layers, 201 to 232 full layers, 300 a rune; any other is 0.
+pub fn aztec_size(n: i32) -> i32
+    ensures { λ r. ⌜ r ≡ aztecSize n ⌝ }
+{
+    match n {
+        1..=99 | 101..=104 | 201..=232 | 300 => n,
+        _ => BarcodeAztec::SIZE,
+    }
+}
+
+pub fn aztec_options(s: &[u8]) -> BarcodeAztec
+    ensures { λ r. ⌜ r ≡ aztecOf (now (s .entry)) ⌝ }
+{
+    let magnification = last_clamped(
+        s,
+        b'd',
+        BarcodeAztec::MAGNIFICATION,
+        BarcodeAztec::MAGNIFICATION_MIN,
+        BarcodeAztec::MAGNIFICATION_MAX,
+    );
+    let size = aztec_size(last_number(s, b'e', BarcodeAztec::SIZE));
+    BarcodeAztec {
+        magnification,
+        size,
+    }
+}
+
+pub fn datamatrix_options(s: &[u8]) -> BarcodeDatamatrix
+    ensures { λ r. ⌜ r ≡ datamatrixOf (now (s .entry)) ⌝ }
+{
+    let height = last_clamped(
+        s,
+        b'h',
+        BarcodeDatamatrix::HEIGHT,
+        BarcodeDatamatrix::HEIGHT_MIN,
+        BarcodeDatamatrix::HEIGHT_MAX,
+    );
+    let columns = last_count(s, b'c');
+    let rows = last_count(s, b'r');
+    BarcodeDatamatrix {
+        height,
+        columns,
+        rows,
+    }
+}
+
+// The mode that the last `m` gives where it is 2, 3, 4 or 6; else the automatic one.
+pub fn maxicode_mode(s: &[u8], data: &[u8]) -> i32
+    ensures { λ r. ⌜ r ≡ modeOf (now (s .entry)) (now («data» .entry)) ⌝ }
+{
+    let m = last_count(s, b'm');
+    match m {
+        2 | 3 | 4 | 6 => m,
+        _ => auto_maxicode_mode(data),
+    }
+}
+
+pub fn pdf417_module_width(s: &[u8]) -> i32
+    ensures { λ r. ⌜ r ≡ pdf417ModuleWidth (now (s .entry)) ⌝ }
+{
+    last_clamped(
+        s,
+        b'x',
+        BarcodePdf417::MODULE_WIDTH,
+        BarcodePdf417::MODULE_WIDTH_MIN,
+        BarcodePdf417::MODULE_WIDTH_MAX,
+    )
+}
+
+// 4 module widths where `y` gives none.
+pub fn pdf417_row_height(s: &[u8]) -> i32
+    ensures { λ r. ⌜ r ≡ pdf417RowHeight (now (s .entry)) ⌝ }
+{
+    let module_width = pdf417_module_width(s);
+    last_clamped(
+        s,
+        b'y',
+        BarcodePdf417::ROW_HEIGHT_MODULES * module_width,
+        BarcodePdf417::ROW_HEIGHT_MIN,
+        BarcodePdf417::ROW_HEIGHT_MAX,
+    )
+}
+
+// `t1`, and no other value.
+pub fn pdf417_truncate(s: &[u8]) -> bool
+    ensures { λ r. ⌜ r ≡ pdf417Truncate (now (s .entry)) ⌝ }
+{
+    let v = last(s, b't', Wanted::Any);
+    if v.len() == 1 { v[0] == b'1' } else { false }
+}
+
+pub fn pdf417_options(s: &[u8]) -> BarcodePdf417
+    ensures { λ r. ⌜ r ≡ pdf417Of (now (s .entry)) ⌝ }
+{
+    let orientation = epl_rotation(last_number(s, b'o', BarcodePdf417::ROTATION));
+    let row_height = pdf417_row_height(s);
+    let security = last_clamped(
+        s,
+        b's',
+        BarcodePdf417::SECURITY,
+        BarcodePdf417::SECURITY_MIN,
+        BarcodePdf417::SECURITY_MAX,
+    );
+    let columns = last_count(s, b'l');
+    let rows = last_count(s, b'r');
+    let truncate = pdf417_truncate(s);
+    let module_width = pdf417_module_width(s);
+    BarcodePdf417 {
+        orientation,
+        row_height,
+        security,
+        columns,
+        rows,
+        truncate,
+        module_width,
+    }
+}
+
+// The level of the last `e` that gives one: M where none does.
+pub fn qr_level(s: &[u8]) -> QrErrorCorrectionLevel
+    ensures { λ r. ⌜ r ≡ levelOf (now (s .entry)) ⌝ }
+{
+    let v = last(s, b'e', Wanted::Level);
+    if v.len() == 0 {
+        return QrErrorCorrectionLevel::M;
+    }
+    let b = v[0];
+    match b {
+        b'L' => QrErrorCorrectionLevel::L,
+        b'Q' => QrErrorCorrectionLevel::Q,
+        b'H' => QrErrorCorrectionLevel::H,
+        _ => QrErrorCorrectionLevel::M,
+    }
+}
+
+pub fn qr_options(s: &[u8]) -> BarcodeQr
+    ensures { λ r. ⌜ r ≡ qrOf (now (s .entry)) ⌝ }
+{
+    let magnification = last_clamped(
+        s,
+        b's',
+        BarcodeQr::MAGNIFICATION,
+        BarcodeQr::MAGNIFICATION_MIN,
+        BarcodeQr::MAGNIFICATION_MAX,
+    );
+    BarcodeQr { magnification }
+}
+
+// One function a type: its parameters, and where it stands.
+pub fn aztec(s: &[u8], at: Placed, span: DataSpan) -> Reading
+    ensures { λ r. ⌜ r ≡ aztecReading (now (s .entry)) at span ⌝ }
+{
+    let Placed::At(position) = at else {
+        return Reading::Refused(Refusal::OutOfRange);
+    };
+    let barcode = aztec_options(s);
+    Reading::Element(LabelElement::BarcodeAztec(BarcodeAztecWithData {
+        barcode,
+        position,
+        data: span,
+    }))
+}
+
+pub fn datamatrix(s: &[u8], at: Placed, span: DataSpan) -> Reading
+    ensures { λ r. ⌜ r ≡ datamatrixReading (now (s .entry)) at span ⌝ }
+{
+    let Placed::At(position) = at else {
+        return Reading::Refused(Refusal::OutOfRange);
+    };
+    let barcode = datamatrix_options(s);
+    Reading::Element(LabelElement::BarcodeDatamatrix(BarcodeDatamatrixWithData {
+        barcode,
+        position,
+        data: span,
+    }))
+}
+
+pub fn maxicode(s: &[u8], data: &[u8], at: Placed, span: DataSpan) -> Reading
+    ensures { λ r. ⌜ r ≡ maxicodeReading (now (s .entry)) (now («data» .entry)) at span ⌝ }
+{
+    let Placed::At(position) = at else {
+        return Reading::Refused(Refusal::OutOfRange);
+    };
+    let mode = maxicode_mode(s, data);
+    Reading::Element(LabelElement::Maxicode(MaxicodeWithData {
+        code: Maxicode { mode },
+        position,
+        data: span,
+    }))
+}
+
+pub fn pdf417(s: &[u8], at: Placed, span: DataSpan) -> Reading
+    ensures { λ r. ⌜ r ≡ pdf417Reading (now (s .entry)) at span ⌝ }
+{
+    let Placed::At(position) = at else {
+        return Reading::Refused(Refusal::OutOfRange);
+    };
+    let barcode = pdf417_options(s);
+    Reading::Element(LabelElement::BarcodePdf417(BarcodePdf417WithData {
+        barcode,
+        position,
+        data: span,
+    }))
+}
+
+// 9 where the decoded data is over its limit, then 13.
+pub fn qr(s: &[u8], data: &[u8], at: Placed, span: DataSpan) -> Reading
+    ensures { λ r. ⌜ r ≡ qrReading (now (s .entry)) (now («data» .entry)) at span ⌝ }
+{
+    let count = decoded_len(data, BarcodeQr::DATA_MAX + 1);
+    if BarcodeQr::DATA_MAX < count {
+        return Reading::Refused(Refusal::QrData);
+    }
+    let Placed::At(position) = at else {
+        return Reading::Refused(Refusal::OutOfRange);
+    };
+    let barcode = qr_options(s);
+    let error_correction = qr_level(s);
+    Reading::Element(LabelElement::BarcodeQr(BarcodeQrWithData {
+        barcode,
+        error_correction,
+        position,
+        data: span,
+    }))
+}
+
+// The bar code of a type, with its parameters s, its data, and where it stands.
+pub fn barcode_2d_at(t: Symbology2d, s: &[u8], data: &[u8], at: Placed, span: DataSpan) -> Reading
+    ensures { λ r. ⌜ r ≡ barcode2dAt t (now (s .entry)) (now («data» .entry)) at span ⌝ }
+{
+    match t {
+        Symbology2d::Aztec => aztec(s, at, span),
+        Symbology2d::Datamatrix => datamatrix(s, at, span),
+        Symbology2d::Maxicode => maxicode(s, data, at, span),
+        Symbology2d::Pdf417 => pdf417(s, at, span),
+        Symbology2d::Qr => qr(s, data, at, span),
+        Symbology2d::Unlisted => Reading::Refused(Refusal::Barcode2dType),
+    }
+}
+
+// A line's parameters and data, at a reference.
+pub fn parse_epl_2d_barcode(
+    params: &[u8],
+    data: &[u8],
+    span: DataSpan,
+    reference: LabelPosition,
+) -> Reading
+    ensures { λ r. ⌜ r ≡ barcode2dReading (now (params .entry)) (now («data» .entry)) span reference ⌝ }
+{
+    if field_count(params) < 3 {
+        return Reading::Refused(Refusal::Barcode2dFields);
+    }
+    let p = point_at(params);
+    let at = place(p.x, p.y, reference);
+    let s = after_two(params);
+    let t = symbology_of(type_at(s));
+    barcode_2d_at(t, after_field(s), data, at, span)
+}

@@ -1,0 +1,4 @@
+// `b`: 2D bar codes.
+pub mod barcode_2d;
+pub mod maxicode;
+pub mod options;

@@ -1,0 +1,151 @@
+// The parameters of `b` behind its type: a letter and its value, a run of digits or one letter, several in a field.
+// A comma is neither letter nor digit, so that the fields need no splitting. Each function looks at a byte a fixed number of times.
+ghost use mathlib.Core.Path.{_≡_};
+ghost use mathlib.Core.List.{[]};
+ghost use Rattle.text.specs.Class.{isDigit};
+ghost use Rattle.text.specs.Blank.{front};
+ghost use Rattle.barcodes_2d.specs.Options.{valueOf, Leading, OptionLen, startsWith, isNumber, isLevel, accepted, lastOf, lastCount, lastNumber, clamped, lastClamped, optionsOf};
+use text::class::is_digit;
+use text::class::is_letter;
+use text::int::max;
+use text::int::min;
+use text::number::Number;
+use text::number::or_default;
+use text::number::parse;
+
+// How many digits s starts with.
+pub fn digit_run(s: &[u8]) -> usize
+    ensures { λ r. ⌜ Leading (front isDigit (now (s .entry))) (now (s .entry)) r ⌝ }
+{
+    let mut i = 0;
+    while i < s.len() && is_digit(s[i]) {
+        i += 1;
+    }
+    i
+}
+
+// How long the value of a letter is, where s is all that follows the letter.
+pub fn value_len(s: &[u8]) -> usize
+    ensures { λ r. ⌜ Leading (valueOf (now (s .entry))) (now (s .entry)) r ⌝ }
+{
+    if s.len() == 0 {
+        return 0;
+    }
+    if is_letter(s[0]) {
+        return 1;
+    }
+    digit_run(s)
+}
+
+// How many bytes the reading goes on by: the first, and the letter behind it where both are letters.
+pub fn option_len(s: &[u8]) -> usize
+    ensures { λ r. ⌜ OptionLen (now (s .entry)) r ⌝ }
+{
+    if s.len() < 2 {
+        return s.len();
+    }
+    if is_letter(s[0]) & is_letter(s[1]) {
+        return 2;
+    }
+    1
+}
+
+// Which values of a parameter count.
+pub enum Wanted {
+    Any,
+    // A number within 32 bits.
+    Number,
+    // One of the letters L, M, Q, H.
+    Level,
+}
+
+pub fn is_number(v: &[u8]) -> bool
+    ensures { λ r. ⌜ r ≡ isNumber (now (v .entry)) ⌝ }
+{
+    match parse(v) {
+        Number::Value(_) => true,
+        Number::Other => false,
+    }
+}
+
+pub fn is_level(v: &[u8]) -> bool
+    ensures { λ r. ⌜ r ≡ isLevel (now (v .entry)) ⌝ }
+{
+    if v.len() == 0 {
+        return false;
+    }
+    let b = v[0];
+    (b == b'L') | (b == b'M') | (b == b'Q') | (b == b'H')
+}
+
+pub fn accepts(wanted: Wanted, v: &[u8]) -> bool
+    ensures { λ r. ⌜ r ≡ accepted wanted (now (v .entry)) ⌝ }
+{
+    match wanted {
+        Wanted::Any => true,
+        Wanted::Number => is_number(v),
+        Wanted::Level => is_level(v),
+    }
+}
+
+// s starts with the parameter p, and its value counts.
+pub fn starts_with(s: &[u8], p: u8, wanted: Wanted) -> bool
+    ensures { λ r. ⌜ r ≡ startsWith wanted p (now (s .entry)) ⌝ }
+{
+    if s.len() == 0 {
+        return false;
+    }
+    if is_letter(s[0]) & (s[0] == p) {
+        let n = 1 + value_len(&s[1..]);
+        return accepts(wanted, &s[1..n]);
+    }
+    false
+}
+
+// The value of the last parameter p that counts: empty where there is none.
+pub fn last(s: &[u8], p: u8, wanted: Wanted) -> &[u8]
+    ensures { λ r. ⌜ now r ≡ lastOf wanted p [] (optionsOf (now (s .entry))) ⌝ }
+{
+    let mut from = 0;
+    let mut to = 0;
+    let mut at = 0;
+    while at < s.len() {
+        if starts_with(&s[at..], p, wanted) {
+            from = at + 1;
+            to = from + value_len(&s[from..]);
+        }
+        at += option_len(&s[at..]);
+    }
+    &s[from..to]
+}
+
+// The number of the last parameter p: 0 where it is none, or there is no p.
+pub fn last_count(s: &[u8], p: u8) -> i32
+    ensures { λ r. ⌜ r ≡ lastCount p (optionsOf (now (s .entry))) ⌝ }
+{
+    or_default(parse(last(s, p, Wanted::Any)), 0)
+}
+
+// The number of the last parameter p that has one: the default where none does.
+pub fn last_number(s: &[u8], p: u8, default: i32) -> i32
+    ensures { λ r. ⌜ r ≡ lastNumber p default (optionsOf (now (s .entry))) ⌝ }
+{
+    or_default(parse(last(s, p, Wanted::Number)), default)
+}
+
+// v, or the nearest of lo and hi.
+pub fn clamp(v: i32, lo: i32, hi: i32) -> i32
+    ensures { λ r. ⌜ r ≡ clamped lo hi v ⌝ }
+{
+    min(max(v, lo), hi)
+}
+
+// The last number of p within lo to hi: the default, as it is, where there is none.
+pub fn last_clamped(s: &[u8], p: u8, default: i32, lo: i32, hi: i32) -> i32
+    ensures { λ r. ⌜ r ≡ lastClamped p default lo hi (optionsOf (now (s .entry))) ⌝ }
+{
+    match parse(last(s, p, Wanted::Number)) {
+        Number::Value(n) => clamp(n, lo, hi),
+        Number::Other => default,
+    }
+}

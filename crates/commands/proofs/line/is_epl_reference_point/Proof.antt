@@ -1,0 +1,23 @@
+-- `commands::line::is_epl_reference_point` meets its contract.
+-- Assumes nothing.
+use Rattle.commands.specs.Line.{isReference}
+use borrow.Author.Needs.{needs}
+use Rattle.commands.proofs.line.is_epl_reference_point.Statement.{statement}
+use Rattle.commands.proofs.line.is_epl_reference_point.Tie as tie
+
+byte-at-requires : tie.Need-byte-at-requires
+byte-at-requires c κs = search needs
+
+byte-at-requires-2 : tie.Need-byte-at-requires-2
+byte-at-requires-2 c κs = search needs
+
+is-digit-requires : tie.Need-is-digit-requires
+is-digit-requires c κs = search needs
+
+returns : tie.Need-returns
+unfolding isReference
+returns c = simp (c .is-digit .ensures, c .before .byte-at2 .ensures, c .before .before .byte-at .ensures)
+
+pub is-epl-reference-point-spec : {M : Type 1} → statement M
+is-epl-reference-point-spec =
+    tie.close (tie.spec byte-at-requires byte-at-requires-2 is-digit-requires returns)

@@ -1,0 +1,92 @@
+-- Command lines (01, "Grammar"): what a line says at a reference.
+use Prim.Native.Nat.{ℕ, _+_, _-_}
+use mathlib.Core.Bool.{Bool, cond, _&&_}
+use mathlib.Core.List.{List, [], _∷_}
+use lib.Dec.{eqb}
+use lib.ListN.{length, getD, drop}
+use Rattle.text.specs.Blank.{trimStart, trim}
+use Rattle.text.specs.Class.{isDigit, allDigits}
+use Rattle.text.specs.Fields.{indexOf, before, quoted, withoutTrailingCommas, same}
+use Rattle.elements.specs.declared.data_span.DataSpan.{DataSpan}
+use Rattle.elements.specs.declared.label_position.LabelPosition.{LabelPosition}
+use Rattle.elements.specs.declared.line_color.LineColor.the-variants.{Black, White}
+use Rattle.commands.specs.declared.line.Command.{Command}
+use Rattle.commands.specs.declared.line.Command.the-variants.{Clear, Reference, Data, Line, Diagonal, Box, Print, Other}
+use Rattle.commands.specs.declared.line.DataCommand.{DataCommand}
+use Rattle.commands.specs.declared.line.DataCommand.the-variants.{Text, Barcode, Barcode2d}
+use Rattle.parameters.specs.declared.reading.Reading.{Reading}
+use Rattle.parameters.specs.declared.reading.Reading.the-variants as reading
+use Rattle.barcodes.specs.Barcode.{barcodeReading}
+use Rattle.barcodes_2d.specs.Barcode2d.{barcode2dReading}
+use Rattle.draws.specs.Draw.{lineReading, diagonalReading, boxReading}
+use Rattle.commands.specs.Reference.{referenceOf}
+use Rattle.texts.specs.Text.{textReading}
+
+-- its first byte is b, its second
+abbrev pub first : ℕ → List ℕ → Bool
+first b t = eqb (getD t 0 0) b
+
+abbrev pub second : ℕ → List ℕ → Bool
+second b t = eqb (getD t 1 0) b
+
+-- "`R` and a digit"
+unfoldable pub isReference : List ℕ → Bool
+isReference t = first 82 t && isDigit (getD t 1 0)
+
+-- "`P` or `P` with digits"
+unfoldable pub isPrint : List ℕ → Bool
+isPrint t = first 80 t && allDigits (drop 1 t)
+
+-- the command of a line whose blanks are off, "tested in this order"
+unfoldable pub commandOf : List ℕ → Command
+commandOf t =
+    cond (same t (78 ∷ [])) Clear
+    (cond (isReference t) Reference
+    (cond (first 65 t) (Data Text)
+    (cond (first 66 t) (Data Barcode)
+    (cond (first 98 t) (Data Barcode2d)
+    (cond (first 76 t && second 79 t) (Line Black)
+    (cond (first 76 t && second 87 t) (Line White)
+    (cond (first 76 t && second 83 t) Diagonal
+    (cond (first 88 t) Box
+    (cond (isPrint t) Print Other)))))))))
+
+-- behind an `L`
+unfoldable pub lineCommand : ℕ → Command
+lineCommand b = cond (eqb b 79) (Line Black) (cond (eqb b 87) (Line White) (cond (eqb b 83) Diagonal Other))
+
+-- "fields before the data, trailing commas dropped"; they begin behind the letter
+unfoldable pub paramsOf : List ℕ → List ℕ
+paramsOf t = withoutTrailingCommas (drop 1 (before 34 t))
+
+-- a command with its parameters s, its data t and the data's place
+abbrev pub withData : DataCommand → List ℕ → List ℕ → DataSpan → LabelPosition → Reading
+withData Text s t d r = textReading s d r
+withData Barcode s t d r = barcodeReading s d r
+withData Barcode2d s t d r = barcode2dReading s t d r
+
+-- the data's place in a line that lead bytes of blanks stand before
+abbrev pub spanOf : ℕ → List ℕ → DataSpan
+spanOf lead t = record { start = lead + indexOf 34 t + 1; len = length (quoted t) }
+
+-- "Fewer than two quotes, or no data: nothing is read"
+unfoldable pub quotedReading : DataCommand → ℕ → List ℕ → LabelPosition → Reading
+quotedReading c lead t r = cond (eqb (length (quoted t)) 0) reading.Nothing (withData c (paramsOf t) (quoted t) (spanOf lead t) r)
+
+abbrev pub commandReading : Command → ℕ → List ℕ → LabelPosition → Reading
+commandReading Clear lead t r = reading.Clear
+commandReading Reference lead t r = reading.Reference (referenceOf (drop 1 t) r)
+commandReading (Data c) lead t r = quotedReading c lead t r
+commandReading (Line c) lead t r = lineReading (drop 2 t) c r
+commandReading Diagonal lead t r = diagonalReading (drop 2 t) r
+commandReading Box lead t r = boxReading (drop 1 t) r
+commandReading Print lead t r = reading.Print
+commandReading Other lead t r = reading.Nothing
+
+-- the bytes of Unicode blanks that a line begins with
+abbrev pub leadOf : List ℕ → ℕ
+leadOf line = length line - length (trimStart line)
+
+-- a line, "After its Unicode blanks are taken off both ends"; data is counted from the line's first byte
+unfoldable pub readLine : List ℕ → LabelPosition → Reading
+readLine line r = commandReading (commandOf (trim line)) (leadOf line) (trim line) r

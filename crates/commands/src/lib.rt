@@ -1,0 +1,3 @@
+// One line of an EPL file, whatever it says.
+pub mod line;
+pub mod reference;

@@ -1,0 +1,21 @@
+// `R`: the reference point.
+ghost use mathlib.Core.Path.{_≡_};
+ghost use Rattle.commands.specs.Reference.{referenceOf};
+use elements::label_position::LabelPosition;
+use text::fields::after_field;
+use text::fields::first_field;
+use text::number::number_or;
+use text::scan::find;
+
+// The reference that the parameters behind `R` set. x, then all after the first comma as y; without a comma y stays.
+// So R7 keeps y, and R7, and R7,2,3 give y 0: 2,3 is no number.
+pub fn parse_epl_reference(params: &[u8], reference: LabelPosition) -> LabelPosition
+    ensures { λ r. ⌜ r ≡ referenceOf (now (params .entry)) reference ⌝ }
+{
+    let x = number_or(first_field(params), 0);
+    if find(params, b',') == params.len() {
+        return LabelPosition { x, y: reference.y };
+    }
+    let y = number_or(after_field(params), 0);
+    LabelPosition { x, y }
+}

@@ -1,0 +1,26 @@
+-- `draws::draw::boxed` meets its contract: the match tells what was drawn, and its numbers are read back from their bits.
+-- Assumes nothing.
+use mir.Facts.{toZ-ofZ}
+use Rattle.text.proofs.IntLaws.{back32}
+use borrow.Author.Needs.{needs}
+use Rattle.draws.proofs.draw.boxed.Statement.{statement}
+use Rattle.draws.proofs.draw.boxed.Tie as tie
+
+enum-known-d : tie.Need-enum-known-d
+enum-known-d c = search needs
+
+enum-told : tie.Need-enum-told
+enum-told c = search needs
+
+returns : tie.Need-returns
+returns c = simp (c .enum-told .given .1)
+
+returns-2 : tie.Need-returns-2
+returns-2 c =
+    let known = c .struct-told .given in
+    let d = c .before .before .before .d .given in
+    rw (back32 (d .0 .0 .width) (known .1 .0 .1), back32 (d .0 .0 .height) (known .1 .1 .0 .1), toZ-ofZ (c .before .before .before .before .before .fits .thickness))
+    (simp (d .1))
+
+pub boxed-spec : {M : Type 1} → statement M
+boxed-spec = tie.close (tie.spec enum-known-d enum-told returns returns-2)

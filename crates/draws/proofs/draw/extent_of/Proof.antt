@@ -1,0 +1,79 @@
+-- `draws::draw::extent_of` meets its contract: the difference decides, and then its absolute value.
+-- Assumes nothing.
+use mathlib.Core.Path.{_≡_, sym, _∙_}
+use lib.IntN.{_-ℤ_}
+use mir.Facts.{toZ-ofZ}
+use Rattle.text.specs.Int.{checked, absZ}
+use Rattle.text.specs.declared.int.Checked.the-variants.{Fits}
+use Rattle.text.proofs.IntLaws.{back32}
+use Rattle.draws.specs.Draw.{extentOf}
+use borrow.Author.Needs.{needs}
+use Rattle.draws.proofs.draw.extent_of.Statement.{statement}
+use Rattle.draws.proofs.draw.extent_of.Tie as tie
+
+difference : (d : tie.After-checked-sub) → d .checked-sub .result ≡ checked (d .before .args .b -ℤ d .before .args .a)
+difference d = simp (toZ-ofZ (d .before .fits .a), toZ-ofZ (d .before .fits .b)) at (d .checked-sub .ensures)
+
+known-d : (d : tie.After-known-told) → checked (d .before .before .before .before .args .b -ℤ d .before .before .before .before .args .a) ≡ Fits (d .before .d .given .0 .0)
+known-d d = sym (difference (d .before .before .before)) ∙ d .before .d .given .1
+
+distance : (d : tie.After-checked-abs) → d .checked-abs .result ≡ checked (absZ (d .before .before .d .given .0 .0))
+distance d = simp (back32 (d .before .before .d .given .0 .0) (d .before .known-told .given .0 .1)) at (d .checked-abs .ensures)
+
+checked-sub-requires : tie.Need-checked-sub-requires
+checked-sub-requires c κs = search needs
+
+enum-known-d : tie.Need-enum-known-d
+enum-known-d c = search needs
+
+enum-told : tie.Need-enum-told
+enum-told c = search needs
+
+returns : tie.Need-returns
+unfolding extentOf
+returns c = simp (sym (difference (c .before .before)) ∙ c .enum-told .given .1)
+
+checked-abs-requires : tie.Need-checked-abs-requires
+checked-abs-requires c κs = search needs
+
+enum-known-size : tie.Need-enum-known-size
+enum-known-size c = search needs
+
+enum-told-2 : tie.Need-enum-told-2
+enum-told-2 c = search needs
+
+returns-2 : tie.Need-returns-2
+unfolding extentOf
+returns-2 c =
+    let p = c .before .before in
+    simp (known-d (p .before), sym (distance p) ∙ c .enum-told2 .given .1)
+
+min-requires : tie.Need-min-requires
+min-requires c κs = search needs
+
+returns-3 : tie.Need-returns-3
+unfolding extentOf
+returns-3 c =
+    let size = c .before .before .size .given in
+    let p = c .before .before .before .before in
+    let k = p .before in
+    let d = k .before .d .given .0 .0 in
+    let s = k .before .before .before .before in
+    let m = c .min in
+    rw (back32 (m .result) (m .ok), back32 (size .0 .0) (c .before .known-told2 .given .0 .1), back32 d (k .known-told .given .0 .1))
+    (simp (simp (toZ-ofZ (s .fits .a), toZ-ofZ (s .fits .b)) at (m .ensures), known-d k, sym (distance p) ∙ size .1))
+
+pub extent-of-spec : {M : Type 1} → statement M
+extent-of-spec =
+    tie.close
+    (tie.spec
+    checked-sub-requires
+    enum-known-d
+    enum-told
+    returns
+    checked-abs-requires
+    enum-known-size
+    enum-told-2
+    returns-2
+    min-requires
+    returns-3)

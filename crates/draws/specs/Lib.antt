@@ -1,0 +1,2 @@
+-- 01, "Grammar": `LO`, `LW`, `LS`, `X`
+pub mod Draw

@@ -1,0 +1,213 @@
+// `LO` and `LW`: lines as boxes; `LS`: diagonals; `X`: boxes by two corners.
+ghost use mathlib.Core.Path.{_≡_};
+ghost use Rattle.draws.specs.Draw.{lineFields, lineElement, lineReading, cornersAt, extentOf, drawnAt, sameWay, diagonalOf, diagonalReading, boxOf, boxReading};
+use elements::graphic_box::GraphicBox;
+use elements::graphic_diagonal_line::GraphicDiagonalLine;
+use elements::label_element::LabelElement;
+use elements::label_position::LabelPosition;
+use elements::line_color::LineColor;
+use elements::refusal::Refusal;
+use parameters::params::after_two;
+use parameters::params::point_at;
+use parameters::params::size_at;
+use parameters::position::Placed;
+use parameters::position::place;
+use parameters::reading::Reading;
+use text::fields::after_field;
+use text::fields::field_count;
+use text::int::Checked;
+use text::int::checked_abs;
+use text::int::checked_sub;
+use text::int::min;
+
+pub struct LineFields {
+    pub at: LabelPosition,
+    pub width: i32,
+    pub height: i32,
+}
+
+// x, y, width, height.
+pub fn line_fields(s: &[u8]) -> LineFields
+    ensures { λ r. ⌜ r ≡ lineFields (now (s .entry)) ⌝ }
+{
+    let at = point_at(s);
+    let t = after_two(s);
+    let width = size_at(t, 1);
+    let height = size_at(after_field(t), 1);
+    LineFields { at, width, height }
+}
+
+// A line at a reference, or 13.
+pub fn line_element(f: LineFields, line_color: LineColor, reference: LabelPosition) -> Reading
+    ensures { λ r. ⌜ r ≡ lineElement f «line_color» reference ⌝ }
+{
+    let at = f.at;
+    let Placed::At(position) = place(at.x, at.y, reference) else {
+        return Reading::Refused(Refusal::OutOfRange);
+    };
+    Reading::Element(LabelElement::GraphicBox(GraphicBox {
+        position,
+        width: f.width,
+        height: f.height,
+        border_thickness: min(f.width, f.height),
+        line_color,
+    }))
+}
+
+// `LO`, `LW`: the parameters after the two letters, at a reference.
+pub fn parse_epl_line(params: &[u8], line_color: LineColor, reference: LabelPosition) -> Reading
+    ensures { λ r. ⌜ r ≡ lineReading (now (params .entry)) «line_color» reference ⌝ }
+{
+    if field_count(params) < 4 {
+        return Reading::Refused(Refusal::LineFields);
+    }
+    line_element(line_fields(params), line_color, reference)
+}
+
+pub struct Corners {
+    pub first: LabelPosition,
+    pub thickness: i32,
+    pub second: LabelPosition,
+}
+
+// x1, y1, thickness, x2, y2.
+pub fn corners_at(s: &[u8]) -> Corners
+    ensures { λ r. ⌜ r ≡ cornersAt (now (s .entry)) ⌝ }
+{
+    let first = point_at(s);
+    let t = after_two(s);
+    let thickness = size_at(t, 1);
+    let second = point_at(after_field(t));
+    Corners {
+        first,
+        thickness,
+        second,
+    }
+}
+
+// One axis of two corners: the smaller end, how far the other is, and the sign of second less first.
+pub struct Extent {
+    pub low: i32,
+    pub size: i32,
+    pub rises: bool,
+    pub falls: bool,
+}
+
+pub enum Measured {
+    Of(Extent),
+    Outside,
+}
+
+// The difference and its absolute value must have 32 bits.
+pub fn extent_of(a: i32, b: i32) -> Measured
+    ensures { λ r. ⌜ r ≡ extentOf a b ⌝ }
+{
+    let Checked::Fits(d) = checked_sub(b, a) else {
+        return Measured::Outside;
+    };
+    let Checked::Fits(size) = checked_abs(d) else {
+        return Measured::Outside;
+    };
+    Measured::Of(Extent {
+        low: min(a, b),
+        size,
+        rises: 0 < d,
+        falls: d < 0,
+    })
+}
+
+// Two corners at a reference: position, sizes, and whether both axes run the same way.
+pub struct Drawn {
+    pub position: LabelPosition,
+    pub width: i32,
+    pub height: i32,
+    pub same_way: bool,
+}
+
+pub enum Cornered {
+    At(Drawn),
+    Outside,
+}
+
+pub fn drawn_at(c: Corners, reference: LabelPosition) -> Cornered
+    ensures { λ r. ⌜ r ≡ drawnAt c reference ⌝ }
+{
+    let a = c.first;
+    let b = c.second;
+    let Measured::Of(across) = extent_of(a.x, b.x) else {
+        return Cornered::Outside;
+    };
+    let Measured::Of(down) = extent_of(a.y, b.y) else {
+        return Cornered::Outside;
+    };
+    let Placed::At(position) = place(across.low, down.low, reference) else {
+        return Cornered::Outside;
+    };
+    Cornered::At(Drawn {
+        position,
+        width: across.size,
+        height: down.size,
+        same_way: same_way(across.rises, across.falls, down.rises, down.falls),
+    })
+}
+
+// Both positive, both negative or both zero.
+pub fn same_way(ax: bool, bx: bool, ay: bool, by: bool) -> bool
+    ensures { λ r. ⌜ r ≡ sameWay ax bx ay by ⌝ }
+{
+    (ax & ay) | (bx & by) | (!ax & !bx & !ay & !by)
+}
+
+// `LS`: the parameters after the two letters, at a reference.
+pub fn parse_epl_diagonal(params: &[u8], reference: LabelPosition) -> Reading
+    ensures { λ r. ⌜ r ≡ diagonalReading (now (params .entry)) reference ⌝ }
+{
+    if field_count(params) < 5 {
+        return Reading::Refused(Refusal::DiagonalFields);
+    }
+    let c = corners_at(params);
+    diagonal(c.thickness, drawn_at(c, reference))
+}
+
+fn diagonal(thickness: i32, d: Cornered) -> Reading
+    ensures { λ r. ⌜ r ≡ diagonalOf thickness d ⌝ }
+{
+    let Cornered::At(at) = d else {
+        return Reading::Refused(Refusal::OutOfRange);
+    };
+    let position = at.position;
+    Reading::Element(LabelElement::DiagonalLine(GraphicDiagonalLine {
+        position,
+        width: at.width,
+        height: at.height,
+        border_thickness: thickness,
+        top_to_bottom: at.same_way,
+    }))
+}
+
+// `X`: the parameters after the letter, at a reference.
+pub fn parse_epl_box(params: &[u8], reference: LabelPosition) -> Reading
+    ensures { λ r. ⌜ r ≡ boxReading (now (params .entry)) reference ⌝ }
+{
+    if field_count(params) < 5 {
+        return Reading::Refused(Refusal::BoxFields);
+    }
+    let c = corners_at(params);
+    boxed(c.thickness, drawn_at(c, reference))
+}
+
+fn boxed(thickness: i32, d: Cornered) -> Reading
+    ensures { λ r. ⌜ r ≡ boxOf thickness d ⌝ }
+{
+    let Cornered::At(at) = d else {
+        return Reading::Refused(Refusal::OutOfRange);
+    };
+    let position = at.position;
+    Reading::Element(LabelElement::GraphicBox(GraphicBox {
+        position,
+        width: at.width,
+        height: at.height,
+        border_thickness: thickness,
+        line_color: LineColor::Black,
+    }))
+}

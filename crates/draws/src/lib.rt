@@ -1,0 +1,2 @@
+// `LO`, `LW`, `LS`, `X`: lines, diagonals and boxes.
+pub mod draw;
