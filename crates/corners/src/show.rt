@@ -1,12 +1,30 @@
 // Answers in words.
+use elements::barcode_2of5::Barcode2of5WithData;
+use elements::barcode_39::Barcode39WithData;
+use elements::barcode_128::Barcode128WithData;
 use elements::barcode_128::BarcodeMode;
+use elements::barcode_aztec::BarcodeAztecWithData;
+use elements::barcode_datamatrix::BarcodeDatamatrixWithData;
+use elements::barcode_ean8::BarcodeEan8WithData;
+use elements::barcode_ean13::BarcodeEan13WithData;
+use elements::barcode_pdf417::BarcodePdf417;
+use elements::barcode_pdf417::BarcodePdf417WithData;
+use elements::barcode_qr::BarcodeQrWithData;
 use elements::barcode_qr::QrErrorCorrectionLevel;
+use elements::barcode_upca::BarcodeUcaWithData;
+use elements::barcode_upce::BarcodeUcpeWithData;
 use elements::data_span::DataSpan;
 use elements::field_orientation::FieldOrientation;
+use elements::font::FontInfo;
+use elements::graphic_box::GraphicBox;
+use elements::graphic_diagonal_line::GraphicDiagonalLine;
+use elements::graphic_field::GraphicField;
 use elements::label_element::LabelElement;
 use elements::label_position::LabelPosition;
 use elements::line_color::LineColor;
+use elements::maxicode::MaxicodeWithData;
 use elements::refusal::Refusal;
+use elements::text_field::TextField;
 use graphics::gw_span::Block;
 use libc::STDOUT_FILENO;
 use parameters::reading::Reading;
@@ -118,42 +136,18 @@ fn bars(o: FieldOrientation, narrow: i32, height: i32, line: bool) {
     flag(b" line ", line);
 }
 
-fn element(e: LabelElement, line: &[u8]) {
-    match e {
-        LabelElement::Text(t) => {
-            let p = t.position;
-            let f = t.font;
-            let d = t.text;
-            at(b" text", p);
-            font(f);
-            flag(b" reverse ", t.reverse_print);
-            data(d, line);
-        }
-        LabelElement::GraphicBox(b) => {
-            let p = b.position;
-            let c = b.line_color;
-            at(b" box", p);
-            sizes(b.width, b.height, b.border_thickness);
-            colour(c);
-        }
-        LabelElement::DiagonalLine(l) => {
-            let p = l.position;
-            at(b" diagonal", p);
-            sizes(l.width, l.height, l.border_thickness);
-            flag(b" direction ", l.top_to_bottom);
-        }
-        LabelElement::GraphicField(g) => {
-            let p = g.position;
-            let d = g.data;
-            at(b" graphic", p);
-            int(b" row ", g.row_bytes);
-            data(d, line);
-        }
-        _ => barcode(e, line),
-    }
+// One function a record; the matches only dispatch.
+fn text_field(t: TextField, line: &[u8]) {
+    let p = t.position;
+    let f = t.font;
+    let d = t.text;
+    at(b" text", p);
+    font(f);
+    flag(b" reverse ", t.reverse_print);
+    data(d, line);
 }
 
-fn font(f: elements::font::FontInfo) {
+fn font(f: FontInfo) {
     let o = f.rotation;
     turned(o);
     float(b" height ", f.height);
@@ -166,133 +160,115 @@ fn sizes(width: i32, height: i32, thickness: i32) {
     int(b" thick ", thickness);
 }
 
-fn barcode(e: LabelElement, line: &[u8]) {
-    match e {
-        LabelElement::Barcode128(b) => {
-            let p = b.position;
-            let c = b.barcode;
-            let o = c.orientation;
-            let m = c.mode;
-            let d = b.data;
-            at(b" Code 128", p);
-            bars(o, b.width, c.height, c.line);
-            mode(m);
-            data(d, line);
-        }
-        LabelElement::Barcode2of5(b) => {
-            let p = b.position;
-            let c = b.barcode;
-            let o = c.orientation;
-            let d = b.data;
-            at(b" 2 of 5", p);
-            bars(o, b.width, c.height, c.line);
-            flag(b" check ", c.check_digit);
-            float(b" ratio ", b.width_ratio);
-            data(d, line);
-        }
-        LabelElement::Barcode39(b) => {
-            let p = b.position;
-            let c = b.barcode;
-            let o = c.orientation;
-            let d = b.data;
-            at(b" Code 39", p);
-            bars(o, b.width, c.height, c.line);
-            flag(b" check ", c.check_digit);
-            float(b" ratio ", b.width_ratio);
-            data(d, line);
-        }
-        LabelElement::BarcodeEan13(b) => {
-            let p = b.position;
-            let c = b.barcode;
-            let o = c.orientation;
-            let d = b.data;
-            at(b" EAN-13", p);
-            bars(o, b.width, c.height, c.line);
-            data(d, line);
-        }
-        LabelElement::BarcodeEan8(b) => {
-            let p = b.position;
-            let c = b.barcode;
-            let o = c.orientation;
-            let d = b.data;
-            at(b" EAN-8", p);
-            bars(o, b.width, c.height, c.line);
-            data(d, line);
-        }
-        LabelElement::BarcodeUca(b) => {
-            let p = b.position;
-            let c = b.barcode;
-            let o = c.orientation;
-            let d = b.data;
-            at(b" UPC-A", p);
-            bars(o, b.width, c.height, c.line);
-            data(d, line);
-        }
-        LabelElement::BarcodeUcpe(b) => {
-            let p = b.position;
-            let c = b.barcode;
-            let o = c.orientation;
-            let d = b.data;
-            at(b" UPC-E", p);
-            bars(o, b.width, c.height, c.line);
-            data(d, line);
-        }
-        _ => barcode_2d(e, line),
-    }
+fn graphic_box(b: GraphicBox) {
+    let p = b.position;
+    let c = b.line_color;
+    at(b" box", p);
+    sizes(b.width, b.height, b.border_thickness);
+    colour(c);
 }
 
-fn barcode_2d(e: LabelElement, line: &[u8]) {
-    match e {
-        LabelElement::BarcodePdf417(b) => {
-            let p = b.position;
-            let c = b.barcode;
-            let d = b.data;
-            at(b" PDF417", p);
-            pdf417(c);
-            data(d, line);
-        }
-        LabelElement::BarcodeAztec(b) => {
-            let p = b.position;
-            let c = b.barcode;
-            let d = b.data;
-            at(b" Aztec", p);
-            int(b" magnification ", c.magnification);
-            int(b" size ", c.size);
-            data(d, line);
-        }
-        LabelElement::BarcodeDatamatrix(b) => {
-            let p = b.position;
-            let c = b.barcode;
-            let d = b.data;
-            at(b" Data Matrix", p);
-            int(b" module ", c.height);
-            int(b" columns ", c.columns);
-            int(b" rows ", c.rows);
-            data(d, line);
-        }
-        LabelElement::BarcodeQr(b) => {
-            let p = b.position;
-            let c = b.barcode;
-            let l = b.error_correction;
-            let d = b.data;
-            at(b" QR", p);
-            int(b" magnification ", c.magnification);
-            level(l);
-            data(d, line);
-        }
-        LabelElement::Maxicode(b) => {
-            let p = b.position;
-            let c = b.code;
-            let d = b.data;
-            at(b" MaxiCode", p);
-            int(b" mode ", c.mode);
-            data(d, line);
-        }
-        _ => word(b" ?"),
-    }
+fn diagonal(l: GraphicDiagonalLine) {
+    let p = l.position;
+    at(b" diagonal", p);
+    sizes(l.width, l.height, l.border_thickness);
+    flag(b" direction ", l.top_to_bottom);
 }
 
-fn pdf417(c: elements::barcode_pdf417::BarcodePdf417) {
+fn graphic(g: GraphicField, line: &[u8]) {
+    let p = g.position;
+    let d = g.data;
+    at(b" graphic", p);
+    int(b" row ", g.row_bytes);
+    data(d, line);
+}
+
+fn code_128(b: Barcode128WithData, line: &[u8]) {
+    let p = b.position;
+    let c = b.barcode;
+    let o = c.orientation;
+    let m = c.mode;
+    let d = b.data;
+    at(b" Code 128", p);
+    bars(o, b.width, c.height, c.line);
+    mode(m);
+    data(d, line);
+}
+
+fn interleaved(b: Barcode2of5WithData, line: &[u8]) {
+    let p = b.position;
+    let c = b.barcode;
+    let o = c.orientation;
+    let d = b.data;
+    at(b" 2 of 5", p);
+    bars(o, b.width, c.height, c.line);
+    flag(b" check ", c.check_digit);
+    float(b" ratio ", b.width_ratio);
+    data(d, line);
+}
+
+fn code_39(b: Barcode39WithData, line: &[u8]) {
+    let p = b.position;
+    let c = b.barcode;
+    let o = c.orientation;
+    let d = b.data;
+    at(b" Code 39", p);
+    bars(o, b.width, c.height, c.line);
+    flag(b" check ", c.check_digit);
+    float(b" ratio ", b.width_ratio);
+    data(d, line);
+}
+
+fn ean_13(b: BarcodeEan13WithData, line: &[u8]) {
+    let p = b.position;
+    let c = b.barcode;
+    let o = c.orientation;
+    let d = b.data;
+    at(b" EAN-13", p);
+    bars(o, b.width, c.height, c.line);
+    data(d, line);
+}
+
+fn ean_8(b: BarcodeEan8WithData, line: &[u8]) {
+    let p = b.position;
+    let c = b.barcode;
+    let o = c.orientation;
+    let d = b.data;
+    at(b" EAN-8", p);
+    bars(o, b.width, c.height, c.line);
+    data(d, line);
+}
+
+fn upc_a(b: BarcodeUcaWithData, line: &[u8]) {
+    let p = b.position;
+    let c = b.barcode;
+    let o = c.orientation;
+    let d = b.data;
+    at(b" UPC-A", p);
+    bars(o, b.width, c.height, c.line);
+    data(d, line);
+}
+
+fn upc_e(b: BarcodeUcpeWithData, line: &[u8]) {
+    let p = b.position;
+    let c = b.barcode;
+    let o = c.orientation;
+    let d = b.data;
+    at(b" UPC-E", p);
+    bars(o, b.width, c.height, c.line);
+    data(d, line);
+}
+
+fn pdf417(b: BarcodePdf417WithData, line: &[u8]) {
+    let p = b.position;
+    let c = b.barcode;
+    let d = b.data;
+    at(b" PDF417", p);
+    pdf417_options(c);
+    data(d, line);
+}
+
+fn pdf417_options(c: BarcodePdf417) {
     let o = c.orientation;
     turned(o);
     int(b" row height ", c.row_height);
@@ -301,6 +277,68 @@ fn pdf417(c: elements::barcode_pdf417::BarcodePdf417) {
     int(b" rows ", c.rows);
     flag(b" truncate ", c.truncate);
     int(b" module ", c.module_width);
+}
+
+fn aztec(b: BarcodeAztecWithData, line: &[u8]) {
+    let p = b.position;
+    let c = b.barcode;
+    let d = b.data;
+    at(b" Aztec", p);
+    int(b" magnification ", c.magnification);
+    int(b" size ", c.size);
+    data(d, line);
+}
+
+fn datamatrix(b: BarcodeDatamatrixWithData, line: &[u8]) {
+    let p = b.position;
+    let c = b.barcode;
+    let d = b.data;
+    at(b" Data Matrix", p);
+    int(b" module ", c.height);
+    int(b" columns ", c.columns);
+    int(b" rows ", c.rows);
+    data(d, line);
+}
+
+fn qr(b: BarcodeQrWithData, line: &[u8]) {
+    let p = b.position;
+    let c = b.barcode;
+    let l = b.error_correction;
+    let d = b.data;
+    at(b" QR", p);
+    int(b" magnification ", c.magnification);
+    level(l);
+    data(d, line);
+}
+
+fn maxicode(b: MaxicodeWithData, line: &[u8]) {
+    let p = b.position;
+    let c = b.code;
+    let d = b.data;
+    at(b" MaxiCode", p);
+    int(b" mode ", c.mode);
+    data(d, line);
+}
+
+fn element(e: LabelElement, line: &[u8]) {
+    match e {
+        LabelElement::Text(t) => text_field(t, line),
+        LabelElement::GraphicBox(b) => graphic_box(b),
+        LabelElement::DiagonalLine(l) => diagonal(l),
+        LabelElement::GraphicField(g) => graphic(g, line),
+        LabelElement::Barcode128(b) => code_128(b, line),
+        LabelElement::BarcodeEan13(b) => ean_13(b, line),
+        LabelElement::BarcodeEan8(b) => ean_8(b, line),
+        LabelElement::BarcodeUca(b) => upc_a(b, line),
+        LabelElement::Barcode2of5(b) => interleaved(b, line),
+        LabelElement::Barcode39(b) => code_39(b, line),
+        LabelElement::BarcodePdf417(b) => pdf417(b, line),
+        LabelElement::BarcodeAztec(b) => aztec(b, line),
+        LabelElement::BarcodeDatamatrix(b) => datamatrix(b, line),
+        LabelElement::BarcodeQr(b) => qr(b, line),
+        LabelElement::Maxicode(b) => maxicode(b, line),
+        LabelElement::BarcodeUcpe(b) => upc_e(b, line),
+    }
 }
 
 fn refused(r: Refusal) {
