@@ -1,6 +1,6 @@
 -- `b` (01, "Grammar"): "x, y, type, parameters"; what each type makes of its parameters is that of `parse_epl_2d_barcode`.
 use Prim.Native.Nat.{ℕ}
-use mathlib.Core.Bool.{Bool, false, cond, _&&_, _||_}
+use mathlib.Core.Bool.{Bool, cond, _&&_, _||_}
 use mathlib.Core.List.{List, [], _∷_}
 use lib.Dec.{eqb, leb, ltb}
 use lib.IntN.{ℤ, pos, negsuc, _*ℤ_}

@@ -1,19 +1,18 @@
 -- The command of a line by its first byte, and where its data stands.
 -- Assumes nothing.
 use mathlib.Core.Path.{_≡_, refl, sym, ap, _∙_}
-use mathlib.Core.Bool.{Bool, true, false, cond, _&&_}
+use mathlib.Core.Bool.{Bool, true, false, cond}
 use mathlib.Core.List.{List, [], _∷_}
-use Prim.Native.Nat.{ℕ, zero, suc, _+_, _-_, _<_, _≤_}
+use Prim.Native.Nat.{ℕ, suc, _-_, _<_}
 use native.Mathlib.Omega.{arith}
 use lib.Dec.{eqb, leb}
 use lib.ListN.{length, getD, drop}
 use borrow.Author.Tests.{ne-eqb, leb-true, leb-false}
-use Rattle.text.specs.Blank.{trimStart, trim}
-use Rattle.text.specs.Fields.{indexOf, after, beforeLast, quoted, same}
-use Rattle.text.proofs.FieldsLaws.{index-le, after-none, before-last-le}
+use Rattle.text.specs.Fields.{indexOf, after, quoted, same}
+use Rattle.text.proofs.FieldsLaws.{after-none, before-last-le}
 use Rattle.commands.specs.Line.{isReference, isPrint, commandOf, lineCommand}
 use Rattle.commands.specs.declared.line.Command.{Command}
-use Rattle.commands.specs.declared.line.Command.the-variants.{Clear, Reference, Data, Print, Other}
+use Rattle.commands.specs.declared.line.Command.the-variants.{Clear, Reference, Print, Other}
 
 pub front : (t : List ℕ) (k : ℕ) → getD t 0 0 ≡ suc k → t ≡ suc k ∷ drop 1 t
 front [] k e = absurd (omega arith)

@@ -1,4 +1,4 @@
-// Answers in words.
+// Answers in words and numbers: an element is its kind in hexadecimal, x, y and then its fields in the order of 01's "Frames", floats as their bits.
 use elements::barcode_2of5::Barcode2of5WithData;
 use elements::barcode_39::Barcode39WithData;
 use elements::barcode_128::Barcode128WithData;
@@ -15,7 +15,6 @@ use elements::barcode_upca::BarcodeUcaWithData;
 use elements::barcode_upce::BarcodeUcpeWithData;
 use elements::data_span::DataSpan;
 use elements::field_orientation::FieldOrientation;
-use elements::font::FontInfo;
 use elements::graphic_box::GraphicBox;
 use elements::graphic_diagonal_line::GraphicDiagonalLine;
 use elements::graphic_field::GraphicField;
@@ -45,8 +44,9 @@ pub fn title(line: &[u8]) {
     word(b" =>");
 }
 
-fn int(name: &[u8], v: i32) {
-    word(name);
+// A number, a flag, the bits of a float: each behind a blank.
+fn num(v: i32) {
+    word(b" ");
     let u = text::int::bits(v);
     if u < 2147483648 {
         io::print_decimal(STDOUT_FILENO, u as u64);
@@ -56,130 +56,129 @@ fn int(name: &[u8], v: i32) {
     }
 }
 
-fn flag(name: &[u8], v: bool) {
-    word(name);
+fn flag(v: bool) {
     if v {
-        word(b"1");
+        num(1);
     } else {
-        word(b"0");
+        num(0);
     }
 }
 
-fn float(name: &[u8], v: f64) {
-    word(name);
+fn float(v: f64) {
+    word(b" ");
     io::print_hex(STDOUT_FILENO, text::float::bits(v), 16);
 }
 
-fn at(kind: &[u8], p: LabelPosition) {
-    word(kind);
-    int(b" at ", p.x);
-    int(b",", p.y);
+// The kind and the position, with which every frame begins.
+fn at(kind: u8, p: LabelPosition) {
+    word(b" ");
+    io::print_hex(STDOUT_FILENO, kind as u64, 2);
+    num(p.x);
+    num(p.y);
 }
 
-// The data's place, and its first 24 bytes as they stand.
+// The data's place and length, and the bytes as they stand where they are few.
 fn data(d: DataSpan, line: &[u8]) {
     let start = d.start;
     let len = d.len;
-    word(b" data ");
+    word(b" ");
     io::print_decimal(STDOUT_FILENO, start as u64);
     word(b"+");
     io::print_decimal(STDOUT_FILENO, len as u64);
+    if len <= 24 {
+        few(start, len, line);
+    }
+}
+
+fn few(start: usize, len: usize, line: &[u8]) {
     if start <= line.len() {
         if len <= line.len() - start {
-            if len <= 24 {
-                let end = start + len;
-                word(b" [");
-                word(&line[start..end]);
-                word(b"]");
-            }
+            let end = start + len;
+            word(b" [");
+            word(&line[start..end]);
+            word(b"]");
         }
     }
 }
 
 fn turned(o: FieldOrientation) {
     match o {
-        FieldOrientation::Normal => word(b" turned 0"),
-        FieldOrientation::Rotated90 => word(b" turned 1"),
-        FieldOrientation::Rotated180 => word(b" turned 2"),
-        FieldOrientation::Rotated270 => word(b" turned 3"),
+        FieldOrientation::Normal => num(0),
+        FieldOrientation::Rotated90 => num(1),
+        FieldOrientation::Rotated180 => num(2),
+        FieldOrientation::Rotated270 => num(3),
     }
 }
 
 fn colour(c: LineColor) {
     match c {
-        LineColor::Black => word(b" black"),
-        LineColor::White => word(b" white"),
+        LineColor::Black => num(0),
+        LineColor::White => num(1),
     }
 }
 
 fn mode(m: BarcodeMode) {
     match m {
-        BarcodeMode::Ucc => word(b" Ucc"),
-        BarcodeMode::Automatic => word(b" Automatic"),
-        BarcodeMode::Ean => word(b" Ean"),
+        BarcodeMode::Ucc => num(1),
+        BarcodeMode::Automatic => num(2),
+        BarcodeMode::Ean => num(3),
     }
 }
 
 fn level(l: QrErrorCorrectionLevel) {
     match l {
-        QrErrorCorrectionLevel::H => word(b" level H"),
-        QrErrorCorrectionLevel::Q => word(b" level Q"),
-        QrErrorCorrectionLevel::M => word(b" level M"),
-        QrErrorCorrectionLevel::L => word(b" level L"),
+        QrErrorCorrectionLevel::H => word(b" H"),
+        QrErrorCorrectionLevel::Q => word(b" Q"),
+        QrErrorCorrectionLevel::M => word(b" M"),
+        QrErrorCorrectionLevel::L => word(b" L"),
     }
 }
 
 fn bars(o: FieldOrientation, narrow: i32, height: i32, line: bool) {
     turned(o);
-    int(b" narrow ", narrow);
-    int(b" height ", height);
-    flag(b" line ", line);
+    num(narrow);
+    num(height);
+    flag(line);
 }
 
-// One function a record; the matches only dispatch.
+// One function a record; the match only dispatches.
 fn text_field(t: TextField, line: &[u8]) {
     let p = t.position;
     let f = t.font;
-    let d = t.text;
-    at(b" text", p);
-    font(f);
-    flag(b" reverse ", t.reverse_print);
-    data(d, line);
-}
-
-fn font(f: FontInfo) {
     let o = f.rotation;
+    let d = t.text;
+    at(1, p);
     turned(o);
-    float(b" height ", f.height);
-    float(b" width ", f.width);
-}
-
-fn sizes(width: i32, height: i32, thickness: i32) {
-    int(b" ", width);
-    int(b"x", height);
-    int(b" thick ", thickness);
+    flag(t.reverse_print);
+    float(f.height);
+    float(f.width);
+    data(d, line);
 }
 
 fn graphic_box(b: GraphicBox) {
     let p = b.position;
     let c = b.line_color;
-    at(b" box", p);
-    sizes(b.width, b.height, b.border_thickness);
+    at(2, p);
+    num(b.width);
+    num(b.height);
+    num(b.border_thickness);
     colour(c);
 }
 
 fn diagonal(l: GraphicDiagonalLine) {
     let p = l.position;
-    at(b" diagonal", p);
-    sizes(l.width, l.height, l.border_thickness);
-    flag(b" direction ", l.top_to_bottom);
+    at(3, p);
+    num(l.width);
+    num(l.height);
+    num(l.border_thickness);
+    flag(l.top_to_bottom);
 }
 
 fn graphic(g: GraphicField, line: &[u8]) {
     let p = g.position;
     let d = g.data;
-    at(b" graphic", p);
-    int(b" row ", g.row_bytes);
+    at(4, p);
+    num(g.row_bytes);
     data(d, line);
 }
 
@@ -189,33 +188,9 @@ fn code_128(b: Barcode128WithData, line: &[u8]) {
     let o = c.orientation;
     let m = c.mode;
     let d = b.data;
-    at(b" Code 128", p);
+    at(5, p);
     bars(o, b.width, c.height, c.line);
     mode(m);
-    data(d, line);
-}
-
-fn interleaved(b: Barcode2of5WithData, line: &[u8]) {
-    let p = b.position;
-    let c = b.barcode;
-    let o = c.orientation;
-    let d = b.data;
-    at(b" 2 of 5", p);
-    bars(o, b.width, c.height, c.line);
-    flag(b" check ", c.check_digit);
-    float(b" ratio ", b.width_ratio);
-    data(d, line);
-}
-
-fn code_39(b: Barcode39WithData, line: &[u8]) {
-    let p = b.position;
-    let c = b.barcode;
-    let o = c.orientation;
-    let d = b.data;
-    at(b" Code 39", p);
-    bars(o, b.width, c.height, c.line);
-    flag(b" check ", c.check_digit);
-    float(b" ratio ", b.width_ratio);
     data(d, line);
 }
 
@@ -224,7 +199,7 @@ fn ean_13(b: BarcodeEan13WithData, line: &[u8]) {
     let c = b.barcode;
     let o = c.orientation;
     let d = b.data;
-    at(b" EAN-13", p);
+    at(6, p);
     bars(o, b.width, c.height, c.line);
     data(d, line);
 }
@@ -234,7 +209,7 @@ fn ean_8(b: BarcodeEan8WithData, line: &[u8]) {
     let c = b.barcode;
     let o = c.orientation;
     let d = b.data;
-    at(b" EAN-8", p);
+    at(7, p);
     bars(o, b.width, c.height, c.line);
     data(d, line);
 }
@@ -244,7 +219,7 @@ fn upc_a(b: BarcodeUcaWithData, line: &[u8]) {
     let c = b.barcode;
     let o = c.orientation;
     let d = b.data;
-    at(b" UPC-A", p);
+    at(8, p);
     bars(o, b.width, c.height, c.line);
     data(d, line);
 }
@@ -254,8 +229,32 @@ fn upc_e(b: BarcodeUcpeWithData, line: &[u8]) {
     let c = b.barcode;
     let o = c.orientation;
     let d = b.data;
-    at(b" UPC-E", p);
+    at(16, p);
     bars(o, b.width, c.height, c.line);
+    data(d, line);
+}
+
+fn interleaved(b: Barcode2of5WithData, line: &[u8]) {
+    let p = b.position;
+    let c = b.barcode;
+    let o = c.orientation;
+    let d = b.data;
+    at(9, p);
+    bars(o, b.width, c.height, c.line);
+    flag(c.check_digit);
+    float(b.width_ratio);
+    data(d, line);
+}
+
+fn code_39(b: Barcode39WithData, line: &[u8]) {
+    let p = b.position;
+    let c = b.barcode;
+    let o = c.orientation;
+    let d = b.data;
+    at(10, p);
+    bars(o, b.width, c.height, c.line);
+    flag(c.check_digit);
+    float(b.width_ratio);
     data(d, line);
 }
 
@@ -263,7 +262,7 @@ fn pdf417(b: BarcodePdf417WithData, line: &[u8]) {
     let p = b.position;
     let c = b.barcode;
     let d = b.data;
-    at(b" PDF417", p);
+    at(11, p);
     pdf417_options(c);
     data(d, line);
 }
@@ -271,21 +270,21 @@ fn pdf417(b: BarcodePdf417WithData, line: &[u8]) {
 fn pdf417_options(c: BarcodePdf417) {
     let o = c.orientation;
     turned(o);
-    int(b" row height ", c.row_height);
-    int(b" security ", c.security);
-    int(b" columns ", c.columns);
-    int(b" rows ", c.rows);
-    flag(b" truncate ", c.truncate);
-    int(b" module ", c.module_width);
+    num(c.row_height);
+    num(c.security);
+    num(c.columns);
+    num(c.rows);
+    flag(c.truncate);
+    num(c.module_width);
 }
 
 fn aztec(b: BarcodeAztecWithData, line: &[u8]) {
     let p = b.position;
     let c = b.barcode;
     let d = b.data;
-    at(b" Aztec", p);
-    int(b" magnification ", c.magnification);
-    int(b" size ", c.size);
+    at(12, p);
+    num(c.magnification);
+    num(c.size);
     data(d, line);
 }
 
@@ -293,10 +292,10 @@ fn datamatrix(b: BarcodeDatamatrixWithData, line: &[u8]) {
     let p = b.position;
     let c = b.barcode;
     let d = b.data;
-    at(b" Data Matrix", p);
-    int(b" module ", c.height);
-    int(b" columns ", c.columns);
-    int(b" rows ", c.rows);
+    at(13, p);
+    num(c.height);
+    num(c.columns);
+    num(c.rows);
     data(d, line);
 }
 
@@ -305,8 +304,8 @@ fn qr(b: BarcodeQrWithData, line: &[u8]) {
     let c = b.barcode;
     let l = b.error_correction;
     let d = b.data;
-    at(b" QR", p);
-    int(b" magnification ", c.magnification);
+    at(14, p);
+    num(c.magnification);
     level(l);
     data(d, line);
 }
@@ -315,8 +314,8 @@ fn maxicode(b: MaxicodeWithData, line: &[u8]) {
     let p = b.position;
     let c = b.code;
     let d = b.data;
-    at(b" MaxiCode", p);
-    int(b" mode ", c.mode);
+    at(15, p);
+    num(c.mode);
     data(d, line);
 }
 
@@ -346,11 +345,17 @@ fn refused(r: Refusal) {
     io::print_decimal(STDOUT_FILENO, r.number() as u64);
 }
 
+fn reference(p: LabelPosition) {
+    word(b" reference");
+    num(p.x);
+    num(p.y);
+}
+
 pub fn reading(r: Reading, line: &[u8]) {
     match r {
         Reading::Nothing => word(b" nothing"),
         Reading::Clear => word(b" clear"),
-        Reading::Reference(p) => at(b" reference", p),
+        Reading::Reference(p) => reference(p),
         Reading::Element(e) => element(e, line),
         Reading::Print => word(b" print"),
         Reading::Refused(n) => refused(n),

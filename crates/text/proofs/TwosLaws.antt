@@ -1,11 +1,11 @@
 -- -1 - z at a negative z, and z itself at one that is not: what `int::bits` computes with.
 -- Assumes nothing.
 use mathlib.Core.Path.{_≡_, refl, sym, ap, _∙_, subst}
-use mathlib.Core.Bool.{Bool, true, false, true≢false}
-use Prim.Native.Nat.{ℕ, suc, _-_, _≤_, _<_, _^_}
-use native.Mathlib.Nat.{le-of-lt, lt-of-lt-of-le}
+use mathlib.Core.Bool.{true, false, true≢false}
+use Prim.Native.Nat.{suc, _-_, _≤_, _<_, _^_}
+use native.Mathlib.Nat.{lt-of-lt-of-le}
 use native.Mathlib.Omega.{arith}
-use lib.Dec.{T, lit≤, lit<}
+use lib.Dec.{T, lit≤}
 use borrow.Author.Tests.{ltb-true}
 use lib.IntN.{ℤ, pos, negsuc, natAbs, _-ℤ_, +ℤ-comm, -ℤ-one}
 use lib.Signed.{mag, ltZ, nonNeg}

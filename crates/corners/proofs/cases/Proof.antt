@@ -1,7 +1,6 @@
 -- `corners::cases` is safe and ends: a line and its LF are passed at each turn. Measure: what is left.
 -- Assumes nothing.
 use Prim.Native.Nat.{_≤_, _-_}
-use native.Mathlib.Omega.{arith}
 use lib.ListN.{length}
 use borrow.Author.Needs.{needs}
 use Rattle.corners.proofs.cases.Statement.{statement}

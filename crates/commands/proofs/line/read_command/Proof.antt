@@ -1,6 +1,5 @@
 -- `commands::line::read_command` meets its contract, command by command.
 -- Assumes nothing.
-use mathlib.Core.Path.{_≡_, sym, ap, _∙_}
 use borrow.Author.Needs.{needs}
 use Rattle.commands.proofs.line.read_command.Statement.{statement}
 use Rattle.commands.proofs.line.read_command.Tie as tie

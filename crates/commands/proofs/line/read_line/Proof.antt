@@ -1,6 +1,5 @@
 -- `commands::line::read_line` meets its contract: blanks off, then the command.
 -- Assumes nothing.
-use mathlib.Core.Path.{_≡_}
 use Rattle.text.specs.Blank.{isBlank}
 use Rattle.text.proofs.StripLaws.{strip-le}
 use Rattle.commands.specs.Line.{readLine}

@@ -1,6 +1,5 @@
 -- `commands::line::with_data` meets its contract, command by command.
 -- Assumes nothing.
-use mathlib.Core.Path.{_∙_, sym, ap}
 use borrow.Author.Needs.{needs}
 use Rattle.commands.proofs.line.with_data.Statement.{statement}
 use Rattle.commands.proofs.line.with_data.Tie as tie

@@ -1,10 +1,8 @@
 -- `parameters::params::is_exactly` meets its contract, by the length of the field.
 -- Assumes nothing.
-use mathlib.Core.Path.{_≡_, sym, ap, _∙_}
-use mathlib.Core.Bool.{Bool}
+use mathlib.Core.Path.{ap, _∙_}
 use mathlib.Core.List.{List, [], _∷_}
 use Prim.Native.Nat.{ℕ}
-use lib.ListN.{length}
 use Rattle.text.specs.Fields.{same}
 use Rattle.parameters.specs.Params.{exactly}
 use Rattle.parameters.proofs.ParamsLaws.{same-one, same-other}

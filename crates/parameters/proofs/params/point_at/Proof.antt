@@ -1,11 +1,7 @@
 -- `parameters::params::point_at` meets its contract: the first field is x, the next y.
 -- Assumes nothing.
-use mathlib.Core.Path.{_≡_, ap, _∙_}
-use mathlib.Core.List.{List}
-use Prim.Native.Nat.{ℕ}
-use lib.IntN.{ℤ, pos}
 use Rattle.text.proofs.IntLaws.{back32}
-use Rattle.parameters.specs.Params.{numberAt, pointAt}
+use Rattle.parameters.specs.Params.{pointAt}
 use borrow.Author.Needs.{needs}
 use Rattle.parameters.proofs.params.point_at.Statement.{statement}
 use Rattle.parameters.proofs.params.point_at.Tie as tie

@@ -1,6 +1,6 @@
 -- `text::int::bits` meets its contract, by the sign.
 -- Assumes nothing.
-use mathlib.Core.Path.{_≡_, ap, _∙_, sym, subst}
+use mathlib.Core.Path.{ap, _∙_, sym, subst}
 use Prim.Native.Nat.{_<_, _^_}
 use lib.IntN.{ℤ}
 use lib.Signed.{mag}
@@ -11,17 +11,15 @@ use Rattle.text.specs.Int.{twos}
 use Rattle.text.proofs.TwosLaws.{Below, below, Above, above}
 use Rattle.text.proofs.int.bits.Statement.{statement}
 use Rattle.text.proofs.int.bits.Tie as tie
-use Rattle.text.proofs.int.bits.Reads as reads
-use Rattle.text.proofs.int.bits.Lts as lts
 
 -- the bound of v, of what the machine reads back
 mag-back : (v : ℤ) → SFits w32 v → mag (toZ w32 (ofZ w32 v)) < 2 ^ 31
 mag-back v f = subst (λ (z : ℤ). mag z < 2 ^ 31) (sym (toZ-ofZ w32 v f)) (f .sfits)
 
-neg : (c : lts.Then1 reads.Pre reads.Post) → Below (toZ w32 (ofZ w32 (c .before .args .v)))
+neg : (c : tie.Then1) → Below (toZ w32 (ofZ w32 (c .before .args .v)))
 neg c = below (toZ w32 (ofZ w32 (c .before .args .v))) (c .if1 .taken) (mag-back (c .before .args .v) (c .before .fits .v))
 
-non : (c : lts.Else1 reads.Pre reads.Post) → Above (toZ w32 (ofZ w32 (c .before .args .v)))
+non : (c : tie.Else1) → Above (toZ w32 (ofZ w32 (c .before .args .v)))
 non c = above (toZ w32 (ofZ w32 (c .before .args .v))) (c .if1 .left) (mag-back (c .before .args .v) (c .before .fits .v))
 
 sub-result : tie.Need-sub-result
