@@ -6,8 +6,7 @@ use elements::label_position::LabelPosition;
 use graphics::gw_span::opens_gw;
 use graphics::gw_span::read_block;
 use parameters::reading::Reading;
-
-mod show;
+use words::show;
 
 fn main() {
     let mut buf = [0u8; 65536];

@@ -1,10 +1,10 @@
--- `corners::show::title` is safe and ends: the cut is inside the line.
+-- `words::show::title` is safe and ends: the cut is inside the line.
 -- Assumes nothing.
 use native.Mathlib.Omega.{arith}
 use lib.ListN.{length-take}
 use borrow.Author.Needs.{needs}
-use Rattle.corners.proofs.show.title.Statement.{statement}
-use Rattle.corners.proofs.show.title.Tie as tie
+use Rattle.words.proofs.show.title.Statement.{statement}
+use Rattle.words.proofs.show.title.Tie as tie
 
 word-requires : tie.Need-word-requires
 word-requires c κs = search needs

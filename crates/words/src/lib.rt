@@ -1,0 +1,2 @@
+// Answers in words and numbers, for test programs.
+pub mod show;
