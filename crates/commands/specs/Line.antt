@@ -1,59 +1,25 @@
 -- Command lines (01, "Grammar"): what a line says at a reference.
 use Prim.Native.Nat.{ℕ, _+_, _-_}
-use mathlib.Core.Bool.{Bool, cond, _&&_}
-use mathlib.Core.List.{List, [], _∷_}
+use mathlib.Core.Bool.{cond}
+use mathlib.Core.List.{List}
 use lib.Dec.{eqb}
-use lib.ListN.{length, getD, drop}
+use lib.ListN.{length, drop}
 use Rattle.text.specs.Blank.{trimStart, trim}
-use Rattle.text.specs.Class.{isDigit, allDigits}
-use Rattle.text.specs.Fields.{indexOf, before, quoted, withoutTrailingCommas, same}
+use Rattle.text.specs.Fields.{indexOf, before, quoted, withoutTrailingCommas}
 use Rattle.elements.specs.declared.data_span.DataSpan.{DataSpan}
 use Rattle.elements.specs.declared.label_position.LabelPosition.{LabelPosition}
-use Rattle.elements.specs.declared.line_color.LineColor.the-variants.{Black, White}
-use Rattle.commands.specs.declared.line.Command.{Command}
-use Rattle.commands.specs.declared.line.Command.the-variants.{Clear, Reference, Data, Line, Diagonal, Box, Print, Other}
-use Rattle.commands.specs.declared.line.DataCommand.{DataCommand}
-use Rattle.commands.specs.declared.line.DataCommand.the-variants.{Text, Barcode, Barcode2d}
+use Rattle.spelling.specs.declared.command.Command.{Command}
+use Rattle.spelling.specs.declared.command.Command.the-variants.{Clear, Reference, Data, Line, Diagonal, Box, Print, Other}
+use Rattle.spelling.specs.declared.command.DataCommand.{DataCommand}
+use Rattle.spelling.specs.declared.command.DataCommand.the-variants.{Text, Barcode, Barcode2d}
 use Rattle.parameters.specs.declared.reading.Reading.{Reading}
 use Rattle.parameters.specs.declared.reading.Reading.the-variants as reading
 use Rattle.barcodes.specs.Barcode.{barcodeReading}
 use Rattle.barcodes_2d.specs.Barcode2d.{barcode2dReading}
 use Rattle.draws.specs.Draw.{lineReading, diagonalReading, boxReading}
-use Rattle.commands.specs.Reference.{referenceOf}
+use Rattle.spelling.specs.Command.{commandOf}
+use Rattle.spelling.specs.Reference.{referenceOf}
 use Rattle.texts.specs.Text.{textReading}
-
--- its first byte is b, its second
-abbrev pub first : ℕ → List ℕ → Bool
-first b t = eqb (getD t 0 0) b
-
-abbrev pub second : ℕ → List ℕ → Bool
-second b t = eqb (getD t 1 0) b
-
--- "`R` and a digit"
-unfoldable pub isReference : List ℕ → Bool
-isReference t = first 82 t && isDigit (getD t 1 0)
-
--- "`P` or `P` with digits"
-unfoldable pub isPrint : List ℕ → Bool
-isPrint t = first 80 t && allDigits (drop 1 t)
-
--- the command of a line whose blanks are off, "tested in this order"
-unfoldable pub commandOf : List ℕ → Command
-commandOf t =
-    cond (same t (78 ∷ [])) Clear
-    (cond (isReference t) Reference
-    (cond (first 65 t) (Data Text)
-    (cond (first 66 t) (Data Barcode)
-    (cond (first 98 t) (Data Barcode2d)
-    (cond (first 76 t && second 79 t) (Line Black)
-    (cond (first 76 t && second 87 t) (Line White)
-    (cond (first 76 t && second 83 t) Diagonal
-    (cond (first 88 t) Box
-    (cond (isPrint t) Print Other)))))))))
-
--- behind an `L`
-unfoldable pub lineCommand : ℕ → Command
-lineCommand b = cond (eqb b 79) (Line Black) (cond (eqb b 87) (Line White) (cond (eqb b 83) Diagonal Other))
 
 -- "fields before the data, trailing commas dropped"; they begin behind the letter
 unfoldable pub paramsOf : List ℕ → List ℕ

@@ -1,3 +1,2 @@
 // One line of an EPL file, whatever it says.
 pub mod line;
-pub mod reference;

@@ -61,7 +61,7 @@ fn with_sign(neg: bool, v: u64) -> Number
     if v < 2147483648 {
         Number::Value(v as i32)
     } else {
-        Number::Other
+        Number::Other // beyond 32 bits
     }
 }
 

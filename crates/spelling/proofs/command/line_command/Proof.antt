@@ -1,9 +1,9 @@
--- `commands::line::line_command` meets its contract, arm by arm.
+-- `spelling::command::line_command` meets its contract, arm by arm.
 -- Assumes nothing.
 use borrow.Author.Tests.{ne-eqb}
-use Rattle.commands.specs.Line.{lineCommand}
-use Rattle.commands.proofs.line.line_command.Statement.{statement}
-use Rattle.commands.proofs.line.line_command.Tie as tie
+use Rattle.spelling.specs.Command.{lineCommand}
+use Rattle.spelling.proofs.command.line_command.Statement.{statement}
+use Rattle.spelling.proofs.command.line_command.Tie as tie
 
 returns : tie.Need-returns
 unfolding lineCommand

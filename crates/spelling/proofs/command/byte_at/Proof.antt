@@ -1,10 +1,10 @@
--- `commands::line::byte_at` meets its contract.
+-- `spelling::command::byte_at` meets its contract.
 -- Assumes nothing.
 use mathlib.Core.Path.{sym}
 use lib.ListN.{List·getD-eq-default}
 use borrow.Author.Needs.{needs}
-use Rattle.commands.proofs.line.byte_at.Statement.{statement}
-use Rattle.commands.proofs.line.byte_at.Tie as tie
+use Rattle.spelling.proofs.command.byte_at.Statement.{statement}
+use Rattle.spelling.proofs.command.byte_at.Tie as tie
 
 shared-slice-read-result : tie.Need-shared-slice-read-result
 shared-slice-read-result c = search needs

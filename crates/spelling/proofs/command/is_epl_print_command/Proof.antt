@@ -1,9 +1,9 @@
--- `commands::line::is_epl_print_command` meets its contract.
+-- `spelling::command::is_epl_print_command` meets its contract.
 -- Assumes nothing.
-use Rattle.commands.specs.Line.{isPrint}
+use Rattle.spelling.specs.Command.{isPrint}
 use borrow.Author.Needs.{needs}
-use Rattle.commands.proofs.line.is_epl_print_command.Statement.{statement}
-use Rattle.commands.proofs.line.is_epl_print_command.Tie as tie
+use Rattle.spelling.proofs.command.is_epl_print_command.Statement.{statement}
+use Rattle.spelling.proofs.command.is_epl_print_command.Tie as tie
 
 byte-at-requires : tie.Need-byte-at-requires
 byte-at-requires c κs = search needs

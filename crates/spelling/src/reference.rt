@@ -1,6 +1,6 @@
 // `R`: the reference point.
 ghost use mathlib.Core.Path.{_≡_};
-ghost use Rattle.commands.specs.Reference.{referenceOf};
+ghost use Rattle.spelling.specs.Reference.{referenceOf};
 use elements::label_position::LabelPosition;
 use text::fields::after_field;
 use text::fields::first_field;

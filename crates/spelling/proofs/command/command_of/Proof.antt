@@ -1,17 +1,17 @@
--- `commands::line::command_of` meets its contract: the first byte decides.
+-- `spelling::command::command_of` meets its contract: the first byte decides.
 -- Assumes nothing.
 use mathlib.Core.Path.{refl, sym, ap, _∙_}
 use mathlib.Core.Bool.{Bool, cond}
 use mathlib.Core.List.{List}
 use Prim.Native.Nat.{ℕ}
 use lib.ListN.{getD, drop}
-use Rattle.commands.specs.Line.{isReference, isPrint, commandOf, lineCommand}
-use Rattle.commands.specs.declared.line.DataCommand.the-variants.{Text, Barcode, Barcode2d}
-use Rattle.commands.specs.declared.line.Command.the-variants.{Clear, Reference, Data, Box, Print, Other}
-use Rattle.commands.proofs.LineLaws.{front, spelled, reads-clear, reads-no-clear, reads-reference, reads-print, reads-line, reads-other}
+use Rattle.spelling.specs.Command.{isReference, isPrint, commandOf, lineCommand}
+use Rattle.spelling.specs.declared.command.DataCommand.the-variants.{Text, Barcode, Barcode2d}
+use Rattle.spelling.specs.declared.command.Command.the-variants.{Clear, Reference, Data, Box, Print, Other}
+use Rattle.spelling.proofs.CommandLaws.{front, spelled, reads-clear, reads-no-clear, reads-reference, reads-print, reads-line, reads-other}
 use borrow.Author.Needs.{needs}
-use Rattle.commands.proofs.line.command_of.Statement.{statement}
-use Rattle.commands.proofs.line.command_of.Tie as tie
+use Rattle.spelling.proofs.command.command_of.Statement.{statement}
+use Rattle.spelling.proofs.command.command_of.Tie as tie
 
 byte-at-requires : tie.Need-byte-at-requires
 byte-at-requires c κs = search needs

@@ -1,4 +1,4 @@
--- `commands::reference::parse_epl_reference` meets its contract: the first comma decides.
+-- `spelling::reference::parse_epl_reference` meets its contract: the first comma decides.
 -- Assumes nothing.
 use mathlib.Core.Path.{sym, _∙_}
 use lib.Dec.{eqb}
@@ -6,10 +6,10 @@ use lib.ListN.{length}
 use borrow.Author.Tests.{eq-eqb, ne-eqb}
 use Rattle.text.specs.Fields.{indexOf}
 use Rattle.text.proofs.IntLaws.{back32}
-use Rattle.commands.specs.Reference.{referenceOf}
+use Rattle.spelling.specs.Reference.{referenceOf}
 use borrow.Author.Needs.{needs}
-use Rattle.commands.proofs.reference.parse_epl_reference.Statement.{statement}
-use Rattle.commands.proofs.reference.parse_epl_reference.Tie as tie
+use Rattle.spelling.proofs.reference.parse_epl_reference.Statement.{statement}
+use Rattle.spelling.proofs.reference.parse_epl_reference.Tie as tie
 
 first-field-requires : tie.Need-first-field-requires
 first-field-requires c κs = search needs

@@ -1,0 +1,4 @@
+-- 01, "Grammar": "Tested in this order"
+pub mod Command
+-- 01, "Grammar": `R`
+pub mod Reference
