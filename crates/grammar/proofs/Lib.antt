@@ -1,0 +1,16 @@
+-- fronts of a string
+pub mod FrontLaws
+-- what stands first is found: a line, a block, either
+pub mod LineLaws
+pub mod BlockLaws
+pub mod FoundLaws
+-- what a reader of one unit answers for a line, for a block
+pub mod LineTurnLaws
+pub mod BlockTurnLaws
+-- the reader and the grammar: types, each command, a line
+pub mod TypeLaws
+pub mod CommandLaws
+pub mod ReadingLaws
+-- where the data of an element lies, and how long its line is
+pub mod SpanLaws
+pub mod LengthLaws

@@ -1,0 +1,77 @@
+-- The data of what a line yields lies in the line.
+-- Assumes nothing.
+use mathlib.Core.Path.{_≡_, ap, _∙_}
+use mathlib.Core.List.{List, reverse}
+use Prim.Native.Nat.{ℕ, suc, _+_, _-_, _<_, _≤_}
+use native.Mathlib.Omega.{arith}
+use lib.Dec.{eqb}
+use lib.ListN.{length, length-take, length-drop, length-reverse}
+use borrow.Author.Tests.{eqb-false}
+use Rattle.text.specs.Blank.{trimStart, trim}
+use Rattle.text.specs.Fields.{indexOf, after, beforeLast, quoted}
+use Rattle.text.proofs.BoolLaws.{test}
+use Rattle.text.proofs.TrimLaws.{trim-start-is, trim-end-is}
+use Rattle.elements.specs.declared.label_element.LabelElement.{LabelElement}
+use Rattle.elements.specs.declared.label_position.LabelPosition.{LabelPosition}
+use Rattle.elements.specs.Spans.{AllIn, In}
+use Rattle.parameters.specs.declared.reading.Reading.{Reading}
+use Rattle.parameters.specs.declared.reading.Reading.the-variants as reading
+use Rattle.spelling.specs.declared.command.Command.{Command}
+use Rattle.spelling.specs.declared.command.Command.the-variants.{Clear, Reference, Data, Line, Diagonal, Box, Print, Other}
+use Rattle.spelling.specs.declared.command.DataCommand.{DataCommand}
+use Rattle.spelling.specs.Command.{commandOf}
+use Rattle.commands.specs.Line.{quotedReading, commandReading, leadOf, readLine}
+use Rattle.whole.specs.Language.{yield}
+use Rattle.grammar.specs.Epl.{actOf}
+use Rattle.grammar.proofs.ReadingLaws.{dataOf, yielded}
+
+after-length : (b : ℕ) (s : List ℕ) → length (after b s) ≡ length s - suc (indexOf b s)
+unfolding after
+after-length b s = length-drop (suc (indexOf b s)) s
+
+-- data stands between two quotes
+pub quoted-long : (t : List ℕ) → 0 < length (quoted t) → indexOf 34 t + length (quoted t) + 2 ≤ length t
+unfolding beforeLast
+quoted-long t h =
+    let s = after 34 t in
+    omega (arith, after-length 34 t, after-length 34 (reverse s), length-reverse s, length-reverse (after 34 (reverse s)))
+
+-- a line that yields by its data has some
+pub read-some : (c : DataCommand) (lead : ℕ) (t : List ℕ) (r : LabelPosition) (e : LabelElement) → quotedReading c lead t r ≡ reading.Element e → 0 < length (quoted t)
+unfolding quotedReading
+read-some c lead t r e h =
+    test (eqb (length (quoted t)) 0)
+    (λ k. let w = simp k at h in let z : _≡_ {A = ℕ} 0 1 = cc in omega arith)
+    (λ k. let n = eqb-false (length (quoted t)) 0 k in omega arith)
+
+-- the blanks before a line, and what is left of it
+lead-le : (t : List ℕ) → leadOf t + length (trim t) ≤ length t
+lead-le t =
+    let a = ap length (trim-start-is t) ∙ length-drop (length t - length (trimStart t)) t in
+    let b = ap length (trim-end-is (trimStart t)) ∙ length-take (length (trim t)) (trimStart t) in
+    omega arith
+
+in-command : (c : Command) (lead : ℕ) (t : List ℕ) (r : LabelPosition) (e : LabelElement) (n : ℕ) → commandReading c lead t r ≡ reading.Element e → lead + length t ≤ n → AllIn n (dataOf c lead t)
+in-command Clear lead t r e n h l = tt
+in-command Reference lead t r e n h l = tt
+in-command (Data c) lead t r e n h l = (omega (arith, quoted-long t (read-some c lead t r e h)), tt)
+in-command (Line c) lead t r e n h l = tt
+in-command Diagonal lead t r e n h l = tt
+in-command Box lead t r e n h l = tt
+in-command Print lead t r e n h l = tt
+in-command Other lead t r e n h l = tt
+
+pub line-in : (t : List ℕ) (r : LabelPosition) (e : LabelElement) → readLine t r ≡ reading.Element e → In (length t) e
+unfolding readLine
+line-in t r e h = rw (yielded t r e h .1) (in-command (commandOf (trim t)) (leadOf t) (trim t) r e (length t) h (lead-le t))
+
+pub act-yields : (r : LabelPosition) (x : Reading) (e : LabelElement) → actOf r x ≡ yield e → x ≡ reading.Element e
+act-yields r (reading.Element f) e h = cc
+act-yields r reading.Nothing e h = cc
+act-yields r reading.Clear e h = cc
+act-yields r (reading.Reference p) e h = cc
+act-yields r reading.Print e h = cc
+act-yields r (reading.Refused n) e h = cc
+
+pub acts-line-in : (r : LabelPosition) (t : List ℕ) (e : LabelElement) → actOf r (readLine t r) ≡ yield e → In (length t) e
+acts-line-in r t e h = line-in t r e (act-yields r (readLine t r) e h)

@@ -1,0 +1,49 @@
+-- EPL as a language of units: what a unit does at a reference (01, "Grammar" and "For demand 3").
+use mathlib.Core.List.{List, [], _++_}
+use Prim.Native.Nat.{ℕ}
+use lib.IntN.{pos}
+use lib.ListN.{length}
+use Rattle.elements.specs.declared.label_element.LabelElement.{LabelElement}
+use Rattle.elements.specs.declared.label_element.LabelElement.the-variants as element
+use Rattle.elements.specs.declared.label_position.LabelPosition.{LabelPosition}
+use Rattle.elements.specs.Refusals.{numberOf}
+use Rattle.elements.specs.Spans.{shifted}
+use Rattle.parameters.specs.declared.reading.Reading.{Reading}
+use Rattle.parameters.specs.declared.reading.Reading.the-variants as reading
+use Rattle.parameters.specs.Position.{placed, yields}
+use Rattle.commands.specs.Line.{readLine}
+use Rattle.whole.specs.Language.{Act, keep, clear, yield, print, outside, Language}
+use Rattle.grammar.specs.Units.{Header, EplUnit, block, line, last, gw, bytes, number, Stands}
+use Rattle.grammar.specs.Found.{first}
+
+-- "the fresh state is place 0, reference 0,0, pending count 0"
+abbrev pub origin : LabelPosition
+origin = record { x = pos 0; y = pos 0 }
+
+-- a print line says nothing but that it prints
+abbrev pub EplAct : Type 0
+EplAct = Act LabelPosition LabelElement Unit
+
+-- what a reading does at the reference r
+abbrev pub actOf : LabelPosition → Reading → EplAct
+actOf r reading.Nothing = keep r
+-- "`N` alone drops pending elements and sets the reference to 0,0"
+actOf r reading.Clear = clear origin
+actOf r (reading.Reference p) = keep p
+actOf r (reading.Element e) = yield e
+actOf r reading.Print = print tt
+actOf r (reading.Refused n) = outside (numberOf n)
+
+-- a block: its position with the reference added, its row bytes, its payload as data
+abbrev pub blockSays : List ℕ → Header → List ℕ → LabelPosition → Reading
+blockSays bs h p r =
+    yields (placed (number (h .x)) (number (h .y)) r) λ at.
+    element.GraphicField (record { position = at; «row_bytes» = number (h .width); «data» = record { start = length (bs ++ gw h []); len = length p } })
+
+abbrev pub acts : LabelPosition → EplUnit → EplAct
+acts r (block bs h p) = actOf r (blockSays bs h p r)
+acts r (line t) = actOf r (readLine t r)
+acts r (last t) = actOf r (readLine t r)
+
+abbrev pub epl : Language
+epl = record { U = EplUnit; R = LabelPosition; E = LabelElement; P = Unit; bytes = bytes; Stands = Stands; first = first; act = acts; shifted = shifted; closing = tt }

@@ -1,0 +1,10 @@
+-- 01, "Grammar": "it must be well formed"
+pub mod WellFormed
+-- 01, "Grammar": graphic blocks and command lines
+pub mod Units
+-- what stands first in a string
+pub mod Found
+-- EPL as a language of units
+pub mod Epl
+-- a line as a reader of one unit answers it
+pub mod Turn

@@ -1,0 +1,20 @@
+-- A line as a reader of one unit answers it.
+use Prim.Native.Nat.{ℕ, suc}
+use mathlib.Core.Bool.{cond}
+use mathlib.Core.List.{List}
+use lib.Dec.{ltb}
+use Rattle.text.specs.Blank.{trim}
+use Rattle.elements.specs.declared.label_element.LabelElement.{LabelElement}
+use Rattle.elements.specs.declared.label_position.LabelPosition.{LabelPosition}
+use Rattle.commands.specs.Line.{readLine}
+use Rattle.whole.specs.Reading.{Reading, fault, did}
+use Rattle.grammar.specs.WellFormed.{wellFormed, faultOf}
+use Rattle.grammar.specs.Epl.{actOf}
+
+-- the bytes of a line whose LF stands at n, or has none
+abbrev pub sizeBy : ℕ → ℕ → ℕ
+sizeBy n len = cond (ltb n len) (suc n) n
+
+-- the line t of so many bytes
+abbrev pub lineTurn : ℕ → LabelPosition → List ℕ → Reading LabelPosition LabelElement Unit
+lineTurn size r t = cond (wellFormed (trim t)) (did size (actOf r (readLine t r))) (fault (faultOf (trim t)))

@@ -1,0 +1,5 @@
+pub mod DivisionLaws
+pub mod StepLaws
+pub mod Whole
+pub mod TurnLaws
+pub mod TraceLaws

@@ -1,0 +1,16 @@
+-- a language of units
+pub mod Language
+-- 01, "Grammar": "An input is a run of units"
+pub mod Division
+-- 01, "For demand 3": "Labels of a division"
+pub mod Labels
+-- 01, "Forms that change": one step
+pub mod Step
+-- one unit as a reader of code answers it
+pub mod Reading
+-- 01, "For demand 3": the whole walk, "Labels answered"
+pub mod Reach
+-- the whole walk as one value, and how each answer moves it on
+pub mod Trace
+-- what a language of units has to show, and what follows
+pub mod Claims
