@@ -1,0 +1,2 @@
+-- what the reader of a unit owes
+pub mod UnitLaws

@@ -1,0 +1,54 @@
+-- What a unit's reader owes, from the laws of the grammar. Assumes nothing.
+use mathlib.Core.Path.{_≡_, refl, sym, ap, _∙_}
+use mathlib.Core.List.{List, [], _∷_}
+use Prim.Native.Nat.{ℕ, _+_, _<_, _≤_}
+use native.Mathlib.Omega.{arith}
+use lib.ListN.{length}
+use Rattle.text.specs.Blank.{trim}
+use Rattle.text.proofs.BoolLaws.{test}
+use Rattle.elements.specs.declared.data_span.DataSpan.{DataSpan}
+use Rattle.elements.specs.declared.label_element.LabelElement.{LabelElement}
+use Rattle.elements.specs.declared.label_position.LabelPosition.{LabelPosition}
+use Rattle.elements.specs.Spans.{spans, AllIn, In, AllNear, Near}
+use Rattle.parameters.specs.declared.reading.Reading.{Reading}
+use Rattle.commands.specs.Line.{readLine}
+use Rattle.whole.specs.Language.{yield}
+use Rattle.whole.specs.Reading.{nothing, fault, did, readingOf}
+use Rattle.grammar.specs.WellFormed.{wellFormed}
+use Rattle.grammar.specs.Units.{EplUnit, block, line, last, bytes}
+use Rattle.grammar.specs.Epl.{actOf, acts, epl}
+use Rattle.grammar.specs.Turn.{lineTurn}
+use Rattle.grammar.proofs.LineTurnLaws.{line-none}
+use Rattle.grammar.proofs.BlockTurnLaws.{block-in}
+use Rattle.grammar.proofs.ReadingLaws.{ill-formed}
+use Rattle.grammar.proofs.SpanLaws.{acts-line-in}
+use lib.ListN.{length-append}
+
+pub reading-none : (t : List ℕ) (r : LabelPosition) → length t ≡ 0 → readingOf epl t r ≡ nothing
+reading-none [] r h = line-none r
+reading-none (b ∷ t) r h = absurd (omega arith)
+
+-- a line that is not well formed is refused by its reader with the number of its fault
+pub line-turn : (size : ℕ) (r : LabelPosition) (t : List ℕ) → did size (actOf r (readLine t r)) ≡ lineTurn size r t
+line-turn size r t =
+    test (wellFormed (trim t))
+    (λ e. simp e)
+    (λ e. let n = ill-formed t r e in ap (λ (q : Reading). did size (actOf r q)) (n .1) ∙ ap fault (n .2) ∙ (simp e))
+
+all-near : (k n : ℕ) (ds : List DataSpan) → k + n < 18446744073709551616 → AllIn n ds → AllNear k ds
+all-near k n [] h a = tt
+all-near k n (d ∷ ds) h a = (omega arith, all-near k n ds h (a .1))
+
+-- data that lies in a unit of the input can be counted from the input's first byte
+pub near-in : (k n : ℕ) (e : LabelElement) → k + n < 18446744073709551616 → In n e → Near k e
+near-in k n e h i = all-near k n (spans e) h i
+
+all-in-more : (n m : ℕ) (ds : List DataSpan) → n ≤ m → AllIn n ds → AllIn m ds
+all-in-more n m [] h a = tt
+all-in-more n m (d ∷ ds) h a = (omega arith, all-in-more n m ds h (a .1))
+
+-- the data of an element lies in its unit
+pub inside : (r : LabelPosition) (u : EplUnit) (e : LabelElement) → acts r u ≡ yield e → In (length (bytes u)) e
+inside r (block bs h p) e q = block-in r bs h p e q
+inside r (line t) e q = all-in-more (length t) (length (bytes (line t))) (spans e) (omega (arith, length-append t (10 ∷ []))) (acts-line-in r t e q)
+inside r (last t) e q = acts-line-in r t e q

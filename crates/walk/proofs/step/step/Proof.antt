@@ -1,0 +1,189 @@
+-- `walk::step::step` meets its contract. Invariant: the step is the first answer from at on, with this reference. Measure: the bytes left.
+-- Assumes nothing.
+use mathlib.Core.Path.{_≡_, sym, ap, _∙_}
+use Prim.Native.Nat.{_+_, _-_, _≤_}
+use native.Mathlib.Omega.{arith}
+use native.Mathlib.Numerals.{add-one}
+use lib.ListN.{length, drop}
+use Rattle.elements.specs.Spans.{In}
+use Rattle.whole.specs.Step.{step, answer, handing}
+use Rattle.whole.proofs.TurnLaws.{Fits, onReading, turn-at, fits-at, pass-on, print-none, print-some, step-long, step-past, step-many, step-within}
+use Rattle.grammar.specs.Epl.{epl, origin}
+use Rattle.grammar.proofs.FoundLaws.{reads}
+use Rattle.walk.specs.Steps.{stateOf, unitOf}
+use Rattle.walk.specs.declared.unit.UnitReading.{UnitReading}
+use Rattle.walk.specs.declared.unit.UnitReading.the-variants.{Nothing, Fault, Passed, Cleared, Element, Print}
+use Rattle.walk.proofs.UnitLaws.{inside, near-in}
+use borrow.Author.Needs.{needs}
+use Rattle.walk.proofs.step.step.Statement.{statement}
+use Rattle.walk.proofs.step.step.Tie as tie
+
+abbrev Inv-loop : tie.InvT-loop
+Inv-loop input st at₀ n reference₀ at reference = (at ≤ length input) × (step epl input (stateOf st) ≡ handing (stateOf st) (answer epl (drop at input) at reference n))
+
+abbrev μ-loop : tie.MeasureT-loop
+μ-loop input st at₀ n reference₀ at reference = length input - at
+
+-- the whole step, by the reading that the loop matched
+taken : (d : tie.After-read-unit Inv-loop μ-loop) (q : UnitReading) → d .read-unit .result ≡ q
+    → onReading epl (stateOf (d .before .before .before .before .before .before .before .before .args .st)) (drop (d .before .before .loop .at) (d .before .before .before .before .before .before .before .before .args .input .now)) (d .before .before .loop .at) (d .before .before .loop .reference) (d .before .before .before .before .before .before .before .before .args .st .pending) (unitOf q)
+    ≡ step epl (d .before .before .before .before .before .before .before .before .args .input .now) (stateOf (d .before .before .before .before .before .before .before .before .args .st))
+taken d q k =
+    let l = d .before .before .loop in
+    let a = d .before .before .before .before .before .before .before .before .args in
+    sym (l .inv .1 ∙ turn-at epl reads (a .input .now) (l .at) (l .reference) (unitOf q) (ap unitOf (sym k) ∙ d .read-unit .ensures) (stateOf (a .st)) (a .st .pending))
+
+room : (d : tie.After-read-unit Inv-loop μ-loop) (q : UnitReading) → d .read-unit .result ≡ q → Fits epl reads In (length (d .before .before .before .before .before .before .before .before .args .input .now) - d .before .before .loop .at) (unitOf q)
+room d q k =
+    let l = d .before .before .loop in
+    fits-at epl reads (d .before .before .before .before .before .before .before .before .args .input .now) (l .at) (l .reference) (unitOf q) (ap unitOf (sym k) ∙ d .read-unit .ensures) In inside
+
+returns : tie.Need-returns Inv-loop μ-loop
+returns c = sym (step-long epl (c .before .before .args .input .now) (stateOf (c .before .before .args .st)) (c .if1 .taken))
+
+returns-2 : tie.Need-returns-2 Inv-loop μ-loop
+returns-2 c = let a = c .before .before .before .args in sym (step-past epl (a .input .now) (stateOf (a .st)) (c .before .if1 .left) (c .if2 .taken))
+
+returns-3 : tie.Need-returns-3 Inv-loop μ-loop
+returns-3 c = let a = c .before .before .before .before .args in sym (step-many epl (a .input .now) (stateOf (a .st)) (c .before .before .if1 .left) (c .before .if2 .left) (c .if3 .taken))
+
+loop-holds : tie.Need-loop-holds Inv-loop μ-loop
+loop-holds c =
+    let a = c .before .before .before .before .before .args in
+    (omega arith, step-within epl (a .input .now) (stateOf (a .st)) (omega arith) (omega arith) (omega arith))
+
+sub-read-unit : tie.Need-sub-read-unit Inv-loop μ-loop
+sub-read-unit c = search needs
+
+part-read-unit-start : tie.Need-part-read-unit-start Inv-loop μ-loop
+part-read-unit-start c = search needs
+
+part-read-unit-end : tie.Need-part-read-unit-end Inv-loop μ-loop
+part-read-unit-end c = search needs
+
+read-unit-requires : tie.Need-read-unit-requires Inv-loop μ-loop
+read-unit-requires c κs = search needs
+
+enum-told : tie.Need-enum-told Inv-loop μ-loop
+enum-told c = search needs
+
+at-end-requires : tie.Need-at-end-requires Inv-loop μ-loop
+at-end-requires c κs = search needs
+
+returns-4 : tie.Need-returns-4 Inv-loop μ-loop
+returns-4 c = c .at-end .ensures ∙ taken (c .before .before .before) Nothing (c .before .enum-told .given .1)
+
+enum-known-k : tie.Need-enum-known-k Inv-loop μ-loop
+enum-known-k c = search needs
+
+returns-5 : tie.Need-returns-5 Inv-loop μ-loop
+returns-5 c = taken (c .before .before .before) (Fault (c .before .k .given .0 .0)) (c .before .k .given .1)
+
+enum-known-size : tie.Need-enum-known-size Inv-loop μ-loop
+enum-known-size c = search needs
+
+add-at : tie.Need-add-at Inv-loop μ-loop
+add-at c = omega (arith, room (c .before .before .before) (Passed (c .before .size .given .0 .0) (c .before .size .given .0 .1 .0)) (c .before .size .given .1))
+
+loop-less : tie.Need-loop-less Inv-loop μ-loop
+loop-less c = omega (arith, room (c .before .before .before) (Passed (c .before .size .given .0 .0) (c .before .size .given .0 .1 .0)) (c .before .size .given .1))
+
+loop-again : tie.Need-loop-again Inv-loop μ-loop
+loop-again c =
+    let d = c .before .before .before in
+    let a = d .before .before .before .before .before .before .before .before .args in
+    let g = c .before .size .given in
+    (omega (arith, room d (Passed (g .0 .0) (g .0 .1 .0)) (g .1)), sym (taken d (Passed (g .0 .0) (g .0 .1 .0)) (g .1)) ∙ pass-on epl (stateOf (a .st)) (a .input .now) (d .before .before .loop .at) (g .0 .0) (g .0 .1 .0) (a .st .pending))
+
+enum-known-size-2 : tie.Need-enum-known-size-2 Inv-loop μ-loop
+enum-known-size-2 c = search needs
+
+add-t23 : tie.Need-add-t23 Inv-loop μ-loop
+add-t23 c = omega (arith, room (c .before .before .before) (Cleared (c .before .size2 .given .0 .0)) (c .before .size2 .given .1))
+
+returns-6 : tie.Need-returns-6 Inv-loop μ-loop
+returns-6 c = taken (c .before .before .before) (Cleared (c .before .size2 .given .0 .0)) (c .before .size2 .given .1)
+
+enum-known-size-3 : tie.Need-enum-known-size-3 Inv-loop μ-loop
+enum-known-size-3 c = search needs
+
+shift-requires : tie.Need-shift-requires Inv-loop μ-loop
+shift-requires c κs =
+    let d = c .before .before .before in
+    let g = c .before .size3 .given in
+    let i = room d (Element (g .0 .0) (g .0 .1 .0)) (g .1) in
+    near-in (d .before .before .loop .at) (g .0 .0) (g .0 .1 .0) (omega (arith, i .1)) (i .2)
+
+add-t27 : tie.Need-add-t27 Inv-loop μ-loop
+add-t27 c = omega (arith, room (c .before .before .before .before) (Element (c .before .before .size3 .given .0 .0) (c .before .before .size3 .given .0 .1 .0)) (c .before .before .size3 .given .1) .1)
+
+add-t28 : tie.Need-add-t28 Inv-loop μ-loop
+add-t28 c = omega arith
+
+returns-7 : tie.Need-returns-7 Inv-loop μ-loop
+returns-7 c = rw (c .shift .ensures, add-one) (taken (c .before .before .before .before) (Element (c .before .before .size3 .given .0 .0) (c .before .before .size3 .given .0 .1 .0)) (c .before .before .size3 .given .1))
+
+enum-known-size-4 : tie.Need-enum-known-size-4 Inv-loop μ-loop
+enum-known-size-4 c = search needs
+
+add-t32 : tie.Need-add-t32 Inv-loop μ-loop
+add-t32 c = omega (arith, room (c .before .before .before .before) (Print (c .before .before .size4 .given .0 .0)) (c .before .before .size4 .given .1))
+
+returns-8 : tie.Need-returns-8 Inv-loop μ-loop
+returns-8 c =
+    let d = c .before .before .before .before in
+    let l = d .before .before .loop in
+    let a = d .before .before .before .before .before .before .before .before .args in
+    sym (print-some epl tt _ (l .at + c .before .before .size4 .given .0 .0) (l .reference) (a .st .pending) (omega arith)) ∙ taken d (Print (c .before .before .size4 .given .0 .0)) (c .before .before .size4 .given .1)
+
+add-at-2 : tie.Need-add-at-2 Inv-loop μ-loop
+add-at-2 c = omega (arith, room (c .before .before .before .before) (Print (c .before .before .size4 .given .0 .0)) (c .before .before .size4 .given .1))
+
+loop-less-2 : tie.Need-loop-less-2 Inv-loop μ-loop
+loop-less-2 c = omega (arith, room (c .before .before .before .before) (Print (c .before .before .size4 .given .0 .0)) (c .before .before .size4 .given .1))
+
+loop-again-2 : tie.Need-loop-again-2 Inv-loop μ-loop
+loop-again-2 c =
+    let d = c .before .before .before .before in
+    let l = d .before .before .loop in
+    let a = d .before .before .before .before .before .before .before .before .args in
+    let size = c .before .before .size4 .given .0 .0 in
+    (omega (arith, room d (Print size) (c .before .before .size4 .given .1)), sym (taken d (Print size) (c .before .before .size4 .given .1)) ∙ print-none epl tt _ (l .at + size) (l .reference) (a .st .pending) (omega arith) ∙ pass-on epl (stateOf (a .st)) (a .input .now) (l .at) size (l .reference) (a .st .pending))
+
+pub step-spec : {M : Type 1} → statement M
+step-spec =
+    tie.close
+    (tie.spec
+    Inv-loop
+    μ-loop
+    returns
+    returns-2
+    returns-3
+    loop-holds
+    sub-read-unit
+    part-read-unit-start
+    part-read-unit-end
+    read-unit-requires
+    enum-told
+    at-end-requires
+    returns-4
+    enum-known-k
+    returns-5
+    enum-known-size
+    add-at
+    loop-less
+    loop-again
+    enum-known-size-2
+    add-t23
+    returns-6
+    enum-known-size-3
+    shift-requires
+    add-t27
+    add-t28
+    returns-7
+    enum-known-size-4
+    add-t32
+    returns-8
+    add-at-2
+    loop-less-2
+    loop-again-2)

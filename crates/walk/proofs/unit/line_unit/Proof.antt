@@ -1,0 +1,66 @@
+-- `walk::unit::line_unit` meets its contract. Assumes nothing.
+use mathlib.Core.Path.{_≡_, sym, ap}
+use Prim.Native.Nat.{ℕ}
+use Rattle.elements.specs.declared.label_position.LabelPosition.{LabelPosition}
+use Rattle.parameters.specs.declared.reading.Reading.{Reading}
+use Rattle.whole.specs.Reading.{did}
+use Rattle.grammar.specs.Epl.{actOf}
+use borrow.Author.Needs.{needs}
+use Rattle.walk.proofs.unit.line_unit.Statement.{statement}
+use Rattle.walk.proofs.unit.line_unit.Tie as tie
+
+by : (size : ℕ) (r : LabelPosition) {p q : Reading} → p ≡ q → did size (actOf r q) ≡ did size (actOf r p)
+by size r e = ap (λ (x : Reading). did size (actOf r x)) (sym e)
+
+enum-told : tie.Need-enum-told
+enum-told c = search needs
+
+enum-told-2 : tie.Need-enum-told-2
+enum-told-2 c = search needs
+
+enum-known-said : tie.Need-enum-known-said
+enum-known-said c = search needs
+
+enum-known-said-2 : tie.Need-enum-known-said-2
+enum-known-said-2 c = search needs
+
+enum-told-3 : tie.Need-enum-told-3
+enum-told-3 c = search needs
+
+enum-known-said-3 : tie.Need-enum-known-said-3
+enum-known-said-3 c = search needs
+
+returns : tie.Need-returns
+returns c = by (c .before .before .args .size) (c .before .before .args .reference) (c .enum-told .given .1)
+
+returns-2 : tie.Need-returns-2
+returns-2 c = by (c .before .before .args .size) (c .before .before .args .reference) (c .enum-told2 .given .1)
+
+returns-3 : tie.Need-returns-3
+returns-3 c = by (c .before .before .before .args .size) (c .before .before .before .args .reference) (c .before .said .given .1)
+
+returns-4 : tie.Need-returns-4
+returns-4 c = by (c .before .before .before .args .size) (c .before .before .before .args .reference) (c .before .said2 .given .1)
+
+returns-5 : tie.Need-returns-5
+returns-5 c = by (c .before .before .args .size) (c .before .before .args .reference) (c .enum-told3 .given .1)
+
+returns-6 : tie.Need-returns-6
+returns-6 c = by (c .before .before .before .args .size) (c .before .before .before .args .reference) (c .before .said3 .given .1)
+
+pub line-unit-spec : {M : Type 1} → statement M
+line-unit-spec =
+    tie.close
+    (tie.spec
+    enum-told
+    enum-told-2
+    enum-known-said
+    enum-known-said-2
+    enum-told-3
+    enum-known-said-3
+    returns
+    returns-2
+    returns-3
+    returns-4
+    returns-5
+    returns-6)

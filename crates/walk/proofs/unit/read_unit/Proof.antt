@@ -1,0 +1,59 @@
+-- `walk::unit::read_unit` meets its contract. Assumes nothing.
+use mathlib.Core.Path.{sym, _∙_}
+use native.Mathlib.Omega.{arith}
+use Rattle.grammar.proofs.LineTurnLaws.{line-reads}
+use Rattle.grammar.proofs.BlockTurnLaws.{block-none, block-fault, block-gives}
+use Rattle.walk.proofs.UnitLaws.{reading-none}
+use borrow.Author.Needs.{needs}
+use Rattle.walk.proofs.unit.read_unit.Statement.{statement}
+use Rattle.walk.proofs.unit.read_unit.Tie as tie
+
+returns : tie.Need-returns
+returns c = let a = c .before .before .args in sym (reading-none (a .rest .now) (a .reference) (c .if1 .taken))
+
+read-block-requires : tie.Need-read-block-requires
+read-block-requires c κs = search needs
+
+enum-told : tie.Need-enum-told
+enum-told c = search needs
+
+read-text-line-requires : tie.Need-read-text-line-requires
+read-text-line-requires c κs = search needs
+
+enum-known-n : tie.Need-enum-known-n
+enum-known-n c = search needs
+
+enum-known-size : tie.Need-enum-known-size
+enum-known-size c = search needs
+
+returns-2 : tie.Need-returns-2
+returns-2 c =
+    let b = c .before .before .before in
+    let a = b .before .before .before .args in
+    c .read-text-line .ensures ∙ sym (line-reads (a .rest .now) (a .reference) (block-none (a .rest .now) (a .reference) (sym (b .read-block .ensures) ∙ c .before .enum-told .given .1)) (omega (arith, b .before .if1 .left)))
+
+returns-3 : tie.Need-returns-3
+returns-3 c =
+    let b = c .before .before .before in
+    let a = b .before .before .before .args in
+    sym (block-fault (a .rest .now) (a .reference) (c .before .n .given .0 .0) (sym (b .read-block .ensures) ∙ c .before .n .given .1))
+
+returns-4 : tie.Need-returns-4
+returns-4 c =
+    let b = c .before .before .before in
+    let a = b .before .before .before .args in
+    sym (block-gives (a .rest .now) (a .reference) (c .before .size .given .0 .0) (c .before .size .given .0 .1 .0) (sym (b .read-block .ensures) ∙ c .before .size .given .1))
+
+pub read-unit-spec : {M : Type 1} → statement M
+read-unit-spec =
+    tie.close
+    (tie.spec
+    returns
+    read-block-requires
+    enum-told
+    read-text-line-requires
+    enum-known-n
+    enum-known-size
+    returns-2
+    returns-3
+    returns-4)

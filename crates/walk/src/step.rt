@@ -1,0 +1,96 @@
+// The step that a host calls. Nothing is asked of the state that it hands in.
+ghost use mathlib.Core.Path.{_≡_};
+ghost use Prim.Native.Nat.{_+_, _<_, suc};
+ghost use Rattle.whole.specs.Step.{step, printing, element, ended, state};
+ghost use Rattle.grammar.specs.Epl.{epl};
+ghost use Rattle.walk.specs.Steps.{stateOf, answerOf};
+use crate::state::Printed;
+use crate::state::Step;
+use crate::state::WalkState;
+use crate::unit::UnitReading;
+use crate::unit::read_unit;
+use elements::label_element::LabelElement;
+use elements::label_position::LabelPosition;
+use elements::refusal::Refusal;
+use elements::shift::shift;
+
+// "inputs up to 16,777,216 bytes".
+pub const INPUT_MAX: usize = 16777216;
+
+// The answer at the end of the input: what is pending is printed, then the end.
+fn at_end(at: usize, reference: LabelPosition, n: usize) -> Step
+    ensures { λ r. ⌜ answerOf r ≡ printing epl tt (ended (state at reference 0)) at reference n ⌝ }
+{
+    let st = WalkState {
+        place: at,
+        reference,
+        pending: 0,
+    };
+    if 0 < n {
+        Step::Print(Printed { count: n }, st)
+    } else {
+        Step::End(st)
+    }
+}
+
+// The step: an element, a clear, a print, the end, or a refusal with the state as given. What answers nothing is passed within it.
+pub fn step(input: &[u8], st: WalkState) -> Step
+    ensures { λ r. ⌜ answerOf r ≡ step epl (now (input .entry)) (stateOf st) ⌝ }
+{
+    if INPUT_MAX < input.len() {
+        return Step::Refused(Refusal::InputTooLong, 0, st);
+    }
+    let mut at = st.place;
+    if input.len() < at {
+        return Step::Refused(Refusal::StateOutside, at, st);
+    }
+    let n = st.pending;
+    if at < n {
+        return Step::Refused(Refusal::StateOutside, at, st);
+    }
+    let mut reference = st.reference;
+    loop {
+        match read_unit(&input[at..], reference) {
+            UnitReading::Nothing => {
+                return at_end(at, reference, n);
+            }
+            UnitReading::Fault(k) => {
+                return Step::Refused(k, at, st);
+            }
+            UnitReading::Passed(size, p) => {
+                at += size;
+                reference = p;
+            }
+            UnitReading::Cleared(size) => {
+                return Step::Clear(WalkState {
+                    place: at + size,
+                    reference: LabelPosition { x: 0, y: 0 },
+                    pending: 0,
+                });
+            }
+            UnitReading::Element(size, e) => {
+                return Step::Element(
+                    shift(e, at),
+                    WalkState {
+                        place: at + size,
+                        reference,
+                        pending: n + 1,
+                    },
+                );
+            }
+            UnitReading::Print(size) => {
+                if 0 < n {
+                    return Step::Print(
+                        Printed { count: n },
+                        WalkState {
+                            place: at + size,
+                            reference,
+                            pending: 0,
+                        },
+                    );
+                }
+                at += size;
+            }
+        }
+    }
+}

@@ -1,0 +1,73 @@
+// One unit: what stands first, and what it does at a reference. `GW` is looked for first, so that no LF is searched behind it.
+ghost use mathlib.Core.Path.{_≡_};
+ghost use Prim.Native.Nat.{_<_};
+ghost use lib.ListN.{length};
+ghost use Rattle.whole.specs.Reading.{did, readingOf};
+ghost use Rattle.grammar.specs.Epl.{epl, actOf};
+ghost use Rattle.grammar.specs.Turn.{sizeBy, lineTurn};
+ghost use Rattle.text.specs.Fields.{indexOf};
+ghost use lib.ListN.{take};
+ghost use Rattle.walk.specs.Steps.{unitOf};
+use commands::line::read_line;
+use elements::label_element::LabelElement;
+use elements::label_position::LabelPosition;
+use elements::refusal::Refusal;
+use graphics::gw_span::Block;
+use graphics::gw_span::read_block;
+use parameters::reading::Reading;
+use text::scan::find;
+
+// What stands first: nothing, a fault, or a unit of that many bytes with what it does. Data is counted from the unit's first byte.
+pub enum UnitReading {
+    Nothing,
+    Fault(Refusal),
+    // It is passed, with this reference from here on.
+    Passed(usize, LabelPosition),
+    Cleared(usize),
+    Element(usize, LabelElement),
+    Print(usize),
+}
+
+// The bytes of a line whose LF stands at n, or has none.
+fn line_size(n: usize, len: usize) -> usize
+    ensures { λ r. ⌜ r ≡ sizeBy n len ⌝ }
+{
+    if n < len { n + 1 } else { n }
+}
+
+// A line of so many bytes, by what it says.
+fn line_unit(size: usize, said: Reading, reference: LabelPosition) -> UnitReading
+    ensures { λ r. ⌜ unitOf r ≡ did size (actOf reference said) ⌝ }
+{
+    match said {
+        Reading::Nothing => UnitReading::Passed(size, reference),
+        Reading::Clear => UnitReading::Cleared(size),
+        Reading::Reference(p) => UnitReading::Passed(size, p),
+        Reading::Element(e) => UnitReading::Element(size, e),
+        Reading::Print => UnitReading::Print(size),
+        Reading::Refused(n) => UnitReading::Fault(n),
+    }
+}
+
+// The line that stands first in rest, whatever it says.
+fn read_text_line(rest: &[u8], reference: LabelPosition) -> UnitReading
+    ensures { λ r. ⌜ unitOf r ≡ lineTurn (sizeBy (indexOf 10 (now (rest .entry))) (length (now (rest .entry)))) reference (take (indexOf 10 (now (rest .entry))) (now (rest .entry))) ⌝ }
+{
+    let n = find(rest, 10);
+    let size = line_size(n, rest.len());
+    line_unit(size, read_line(&rest[..n], reference), reference)
+}
+
+// The unit that stands first in rest, which goes to the end of input.
+pub fn read_unit(rest: &[u8], reference: LabelPosition) -> UnitReading
+    ensures { λ r. ⌜ unitOf r ≡ readingOf epl (now (rest .entry)) reference ⌝ }
+{
+    if rest.len() == 0 {
+        return UnitReading::Nothing;
+    }
+    match read_block(rest, reference) {
+        Block::Nothing => read_text_line(rest, reference),
+        Block::Refused(n) => UnitReading::Fault(n),
+        Block::Element(size, e) => UnitReading::Element(size, e),
+    }
+}
