@@ -39,7 +39,7 @@ goes-handed s st (ended st′) w m = w
 goes-handed s st (refused n p st′) w m = tt
 
 module _ (L : Language) (reads : Reads L) where
-  open Language L using (U, R, E, P, bytes, first, act, closing)
+  open Language L using (U, R, E, P, bytes, first, act, shifted, closing)
 
   moves-print : (q : P) (a : Answer R E P) (at next end : ℕ) (r : R) (n : ℕ) → at ≤ next → next ≤ end → Moves at end n a → Moves at end n (printing L q a next r n)
   moves-print q a at next end r zero h k m = m
@@ -165,3 +165,62 @@ module _ (L : Language) (reads : Reads L) where
     labels-after s p (yields e t) = labels-after s (p ++ (frame s e ∷ [])) t ∙ ap (λ (q : List F). labelsIn L F frame s q (after t)) (append-assoc p (frame s e ∷ []) (lead L F frame s t))
     labels-after s p (clears t) = refl
     labels-after s p (prints n o t) = ap (λ (q : List F). record { count = n; says = o; frames = q } ∷ labelsIn L F frame s [] t) (sym (append-nil p))
+
+  -- ---- an element answered comes from a unit that the walk has passed
+  module _ (Q : ℕ → E → Type 0) (pays : (r : R) (u : U) (e : E) (at : ℕ) → act r u ≡ yield e → Q (length (bytes u)) (shifted at e)) where
+    -- so many bytes from the place `at` on, of which Q holds with the element
+    abbrev pub Paid : ℕ → Answer R E P → Type 0
+    Paid at (element e st) = (k : ℕ) × (at + k ≤ st .place) × Q k e
+    Paid at (cleared st) = Unit
+    Paid at (printed n q st) = Unit
+    Paid at (ended st) = Unit
+    Paid at (refused n p st) = Unit
+
+    paid-later : (a : Answer R E P) (at at′ : ℕ) → at ≤ at′ → Paid at′ a → Paid at a
+    paid-later (element e st) at at′ h m = (m .0, omega (arith, m .1), m .2)
+    paid-later (cleared st) at at′ h m = m
+    paid-later (printed n q st) at at′ h m = m
+    paid-later (ended st) at at′ h m = m
+    paid-later (refused n p st) at at′ h m = m
+
+    paid-print : (q : P) (a : Answer R E P) (at next : ℕ) (r : R) (n : ℕ) → Paid at a → Paid at (printing L q a next r n)
+    paid-print q a at next r zero m = m
+    paid-print q a at next r (suc n) m = tt
+
+    paid-act : (go : ℕ → R → Answer R E P) (a : Act R E P) (u : U) (at : ℕ) (r : R) (n : ℕ) → act r u ≡ a → ((r′ : R) → Paid at (go (at + length (bytes u)) r′)) → Paid at (onAct L go a u at r n)
+    paid-act go (keep r′) u at r n h again = again r′
+    paid-act go (clear r′) u at r n h again = tt
+    paid-act go (yield e) u at r n h again = (length (bytes u), omega arith, pays r u e at h)
+    paid-act go (print q) u at r n h again = paid-print q (go (at + length (bytes u)) r) at (at + length (bytes u)) r n (again r)
+    paid-act go (outside j) u at r n h again = tt
+
+    paid-answer : (k : ℕ) (rest : List ℕ) (at : ℕ) (r : R) (n : ℕ) → Paid at (answerBy L k rest at r n)
+    paid-answer zero rest at r n = tt
+    paid-answer (suc k) rest at r n = go (λ rest′ at′ r′. paid-answer k rest′ at′ r′ n) (first rest)
+      where
+        go : ((rest′ : List ℕ) (at′ : ℕ) (r′ : R) → Paid at′ (answerBy L k rest′ at′ r′ n)) → (o : First U) → Paid at (onFirst L (λ rest′ at′ r′. answerBy L k rest′ at′ r′ n) o at r n)
+        go again none = paid-print closing (ended (state at r 0)) at at r n tt
+        go again (bad j) = tt
+        go again (unit u rest′) =
+            paid-act (λ at′ r′. answerBy L k rest′ at′ r′ n) (act r u) u at r n refl
+            (λ r′. paid-later (answerBy L k rest′ (at + length (bytes u)) r′ n) at (at + length (bytes u)) (omega arith) (again rest′ (at + length (bytes u)) r′))
+
+    paid-handed : (g : State R) (at : ℕ) (a : Answer R E P) → Paid at a → Paid at (handing g a)
+    unfolding handing
+    paid-handed g at (element e st) m = m
+    paid-handed g at (cleared st) m = m
+    paid-handed g at (printed n q st) m = m
+    paid-handed g at (ended st) m = m
+    paid-handed g at (refused n p st) m = m
+
+    paid-tests : (a b : Bool) (st : State R) (x : Answer R E P) → Paid (st .place) x → Paid (st .place) (cond a (refused 14 0 st) (cond b (refused 16 (st .place) st) x))
+    paid-tests true b st x m = tt
+    paid-tests false true st x m = tt
+    paid-tests false false st x m = m
+
+    pub paid-step : (s : List ℕ) (st : State R) → Paid (st .place) (step L s st)
+    unfolding step answer
+    paid-step s st =
+        let t = drop (st .place) s in
+        paid-tests (ltb longest (length s)) (ltb (length s) (st .place) || ltb (st .place) (st .pending)) st (handing st (answer L t (st .place) (st .ref) (st .pending)))
+        (paid-handed st (st .place) (answer L t (st .place) (st .ref) (st .pending)) (paid-answer (suc (length t)) t (st .place) (st .ref) (st .pending)))

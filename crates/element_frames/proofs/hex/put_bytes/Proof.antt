@@ -1,0 +1,57 @@
+-- `element_frames::hex::put_bytes` meets its contract. Invariant: the bytes before i are written, up to o. Measure: src's length less i.
+-- Assumes nothing.
+use Prim.Native.Nat.{_-_, _≤_}
+use native.Mathlib.Omega.{arith}
+use lib.ListN.{length, take}
+use Rattle.element_frames.specs.Put.{PutHex}
+use Rattle.element_frames.proofs.PutLaws.{nothing, copy-step, copy-end}
+use borrow.Author.Needs.{needs}
+use Rattle.element_frames.proofs.hex.put_bytes.Statement.{statement}
+use Rattle.element_frames.proofs.hex.put_bytes.Tie as tie
+
+abbrev Inv-loop : tie.InvT-loop
+Inv-loop src out₀ at i₀ o₀ out i o = (i ≤ length src) × PutHex out out₀ at (take i src) i o
+
+abbrev μ-loop : tie.MeasureT-loop
+μ-loop src out₀ at i₀ o₀ out i o = length src - i
+
+loop-holds : tie.Need-loop-holds Inv-loop μ-loop
+loop-holds c = (omega arith, nothing _ _)
+
+shared-slice-read-put-byte : tie.Need-shared-slice-read-put-byte Inv-loop μ-loop
+shared-slice-read-put-byte c = search needs
+
+put-byte-requires : tie.Need-put-byte-requires Inv-loop μ-loop
+put-byte-requires c κs = let h = c .before .before .before .loop .inv in omega (arith, h .1 .wrote .long, h .1 .next)
+
+add-i : tie.Need-add-i Inv-loop μ-loop
+add-i c = search needs
+
+loop-less : tie.Need-loop-less Inv-loop μ-loop
+loop-less c = search needs
+
+loop-again : tie.Need-loop-again Inv-loop μ-loop
+loop-again c =
+    let l = c .before .before .before .before .before .before in
+    (omega arith, copy-step (l .before .before .before .args .src .now) (l .loop .inv .1) (c .before .before .before .before .before .loop-test .taken) (c .before .before .put-byte .ensures))
+
+same-length : tie.Need-same-length Inv-loop μ-loop
+same-length c = c .before .loop .inv .1 .wrote .long
+
+returns : tie.Need-returns Inv-loop μ-loop
+returns c = copy-end (c .before .before .before .before .args .src .now) (c .before .loop .inv .1) (c .before .loop .inv .0) (c .loop-test .left)
+
+pub put-bytes-spec : {M : Type 1} → statement M
+put-bytes-spec =
+    tie.close
+    (tie.spec
+    Inv-loop
+    μ-loop
+    loop-holds
+    shared-slice-read-put-byte
+    put-byte-requires
+    add-i
+    loop-less
+    loop-again
+    same-length
+    returns)

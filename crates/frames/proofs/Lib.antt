@@ -1,0 +1,8 @@
+-- a buffer on its way
+pub mod Toward
+-- the listing, as the loops over the steps want it
+pub mod ListingLaws
+-- what the listing program prints
+pub mod PrintingLaws
+-- how long a listing is
+pub mod Room

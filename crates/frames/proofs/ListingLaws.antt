@@ -1,0 +1,192 @@
+-- Laws of the listing, as the loops over the steps want them. Assumes nothing.
+use mathlib.Core.Path.{_≡_, refl, sym, ap, subst, _∙_}
+use mathlib.Core.List.{List, [], _∷_, _++_}
+use mathlib.Core.Logic.{_⊎_, inl, inr}
+use types.Run.{OneOf, miss}
+use denote.Enum.Declared.{tagOf, declared}
+use Prim.Native.Nat.{ℕ, _+_, _*_, _<_, _≤_, min}
+use native.Mathlib.Omega.{arith}
+use native.Mathlib.Nat.{add-zero, zero-add, min-eq-right, min-le-left}
+use lib.ListN.{length, length-append, length-take, length-drop, drop}
+use borrow.Author.Tests.{lt-ltb, le-ltb}
+use Rattle.elements.specs.declared.data_span.DataSpan.{DataSpan}
+use Rattle.elements.specs.declared.label_element.LabelElement.{LabelElement}
+use Rattle.elements.specs.declared.label_element.LabelElement.the-variants.{Text, GraphicBox, DiagonalLine, GraphicField, Barcode128, BarcodeEan13, BarcodeEan8, BarcodeUca, Barcode2of5, Barcode39, BarcodePdf417, BarcodeAztec, BarcodeDatamatrix, BarcodeQr, Maxicode, BarcodeUcpe}
+use Rattle.elements.specs.declared.refusal.Refusal.{Refusal}
+use Rattle.elements.specs.declared.refusal.Refusal.the-variants.{OutputTooShort}
+use Rattle.elements.specs.Refusals.{numberOf}
+use Rattle.element_frames.specs.Frame.{part, frameOf, countFrame}
+use Rattle.element_frames.specs.Hex.{lineOf}
+use Rattle.element_frames.specs.Put.{Put}
+use Rattle.element_frames.proofs.HexLaws.{length-line, length-be32}
+use Rattle.element_frames.proofs.FrameLaws.{length-frame}
+use Rattle.element_frames.proofs.FrameLaws as frame-laws
+use Rattle.text.specs.Utf8.{decode}
+use Rattle.text.proofs.Utf8Laws.{length-decode-le}
+use Rattle.text.proofs.WroteLaws.{wrote, sets-append}
+use Rattle.whole.specs.Reach.{Final, accepted, refusal}
+use Rattle.whole.specs.Step.{step, longest}
+use Rattle.whole.specs.Trace.{Trace, stops, refuses, yields, clears, prints, Outcome, listed, refusal-of, ending, final, labelsIn, lead, after, trace, onAnswer, Goes}
+use Rattle.whole.proofs.TraceLaws.{labels-after, trace-by, goes-by}
+use Rattle.grammar.specs.Epl.{epl}
+use Rattle.grammar.proofs.FoundLaws.{reads}
+use Rattle.walk.specs.Steps.{stateOf, answerOf, traceOf, fresh}
+use Rattle.walk.specs.declared.state.WalkState.{WalkState}
+use Rattle.walk.specs.declared.state.Step.{Step}
+use Rattle.walk.specs.declared.state.Step.the-variants.{Element, Clear, Print, End, Refused}
+use Rattle.walk.proofs.state.Step.{enum}
+use Rattle.frames.specs.Listing.{FramedLabel, Given, bytes, refused, givenOf, linesOf, labelLines, listingOf, outcomeOf, sizeOf, listedOf, bufferOf, Lists, leadOf, labelText, textFrom}
+use Rattle.frames.specs.declared.listing.Listed.the-variants as listing
+
+-- ---- the length, as the first pass counts it: of the labels so far, and of what is pending
+abbrev pub sizeFrom : List ℕ → ℕ → ℕ → Trace LabelElement Unit → Given
+sizeFrom s total pend stops = bytes total
+sizeFrom s total pend (refuses n k) = refused n k
+sizeFrom s total pend (yields e t) = sizeFrom s total (pend + (2 * length (frameOf s e) + 1)) t
+sizeFrom s total pend (clears t) = sizeFrom s total 0 t
+sizeFrom s total pend (prints n q t) = sizeFrom s (total + (11 + pend)) 0 t
+
+abbrev longer : ℕ → Given → Given
+longer k (bytes n) = bytes (k + n)
+longer k (refused n p) = refused n p
+
+longer-zero : (z : Given) → longer 0 z ≡ z
+longer-zero (bytes n) = ap bytes (zero-add n)
+longer-zero (refused n p) = refl
+
+pub length-lines : (p : List (List ℕ)) (f : List ℕ) → length (linesOf (p ++ (f ∷ []))) ≡ length (linesOf p) + (2 * length f + 1)
+length-lines [] f = length-append (lineOf f) [] ∙ omega (arith, length-line f)
+length-lines (q ∷ p) f = length-append (lineOf q) (linesOf (p ++ (f ∷ []))) ∙ omega (arith, length-lines p f, length-append (lineOf q) (linesOf p))
+
+pub length-count : (n : ℕ) → length (lineOf (countFrame n)) ≡ 11
+length-count n = omega (arith, length-line (countFrame n), length-be32 n)
+
+pub length-label : (n : ℕ) (q : Unit) (p : List (List ℕ)) → length (labelLines (record { count = n; says = q; frames = p })) ≡ 11 + length (linesOf p)
+length-label n q p = omega (arith, length-append (lineOf (countFrame n)) (linesOf p), length-count n)
+
+-- the frames of an input that the walk takes are counted exactly
+part-in : (s : List ℕ) (d : DataSpan) → length (decode (part s d)) ≤ 3 * length s
+part-in s d = omega (arith, length-decode-le (part s d), length-take (d .len) (drop (d .start) s), length-drop (d .start) s)
+
+frame-in : (s : List ℕ) (e : LabelElement) → length (frameOf s e) ≤ 35 + 3 * length s
+frame-in s e = by e (length-frame s e)
+  where
+    by : (e : LabelElement) → length (frameOf s e) ≡ frame-laws.sizeOf s e → length (frameOf s e) ≤ 35 + 3 * length s
+    by (Text e) q = omega (arith, part-in s (e .text))
+    by (GraphicBox e) q = omega arith
+    by (DiagonalLine e) q = omega arith
+    by (GraphicField e) q = omega (arith, length-take (e .«data» .len) (drop (e .«data» .start) s), length-drop (e .«data» .start) s)
+    by (Barcode128 e) q = omega (arith, part-in s (e .«data»))
+    by (BarcodeEan13 e) q = omega (arith, part-in s (e .«data»))
+    by (BarcodeEan8 e) q = omega (arith, part-in s (e .«data»))
+    by (BarcodeUca e) q = omega (arith, part-in s (e .«data»))
+    by (Barcode2of5 e) q = omega (arith, part-in s (e .«data»))
+    by (Barcode39 e) q = omega (arith, part-in s (e .«data»))
+    by (BarcodePdf417 e) q = omega (arith, part-in s (e .«data»))
+    by (BarcodeAztec e) q = omega (arith, part-in s (e .«data»))
+    by (BarcodeDatamatrix e) q = omega (arith, part-in s (e .«data»))
+    by (BarcodeQr e) q = omega (arith, part-in s (e .«data»))
+    by (Maxicode e) q = omega (arith, part-in s (e .«data»))
+    by (BarcodeUcpe e) q = omega (arith, part-in s (e .«data»))
+
+pub frame-len-le : (s : List ℕ) (e : LabelElement) (n : ℕ) → n ≡ min 4294967295 (length (frameOf s e)) → n ≤ 4294967295
+frame-len-le s e n q = rw q (min-le-left 4294967295 (length (frameOf s e)))
+
+pub frame-len-is : (s : List ℕ) (e : LabelElement) → length s ≤ longest → min 4294967295 (length (frameOf s e)) ≡ length (frameOf s e)
+frame-len-is s e h = min-eq-right (omega (arith, frame-in s e))
+
+size-cons : (f : Final) (k : ℕ) (l : FramedLabel) (ls : List FramedLabel) → longer k (sizeOf (ending f (l ∷ ls))) ≡ longer (k + length (labelLines l)) (sizeOf (ending f ls))
+size-cons accepted k l ls = ap bytes (omega (arith, length-append (labelLines l) (listingOf ls)))
+size-cons (refusal n p) k l ls = refl
+
+size-trace : (s : List ℕ) (k : ℕ) (p : List (List ℕ)) (t : Trace LabelElement Unit) → longer k (sizeOf (ending (final t) (labelsIn epl (List ℕ) frameOf s p t))) ≡ sizeFrom s k (length (linesOf p)) t
+size-trace s k p stops = ap bytes (add-zero k)
+size-trace s k p (refuses n j) = refl
+size-trace s k p (yields e t) = size-trace s k (p ++ (frameOf s e ∷ [])) t ∙ ap (λ (m : ℕ). sizeFrom s k m t) (length-lines p (frameOf s e))
+size-trace s k p (clears t) = size-trace s k [] t
+size-trace s k p (prints n q t) =
+    size-cons (final t) k (record { count = n; says = q; frames = p }) (labelsIn epl (List ℕ) frameOf s [] t)
+    ∙ size-trace s (k + length (labelLines (record { count = n; says = q; frames = p }))) [] t
+    ∙ ap (λ (m : ℕ). sizeFrom s (k + m) 0 t) (length-label n q p)
+
+pub size-is : (s : List ℕ) → sizeOf (outcomeOf s) ≡ sizeFrom s 0 0 (traceOf s fresh)
+size-is s = sym (longer-zero (sizeOf (outcomeOf s))) ∙ size-trace s 0 [] (traceOf s fresh)
+
+-- ---- at a step: r is the answer of the step from w, and q what it was matched with
+-- the whole walk by the first step's answer
+abbrev pub onStep : List ℕ → Step → Trace LabelElement Unit
+onStep s q = onAnswer epl (trace epl s) (answerOf q)
+
+abbrev pub Moved : List ℕ → WalkState → Step → Type 0
+Moved s w q = Goes s (stateOf w) (answerOf q)
+
+module _ (s : List ℕ) (w : WalkState) (r q : Step) (e : answerOf r ≡ step epl s (stateOf w)) (k : r ≡ q) where
+  begins : traceOf s w ≡ onStep s q
+  begins = trace-by epl reads s (stateOf w) (answerOf q) (ap answerOf (sym k) ∙ e)
+
+  pub moved-by : Moved s w q
+  moved-by = goes-by epl reads s (stateOf w) (answerOf q) (ap answerOf (sym k) ∙ e)
+
+  pub size-by : (total pend : ℕ) → sizeFrom s total pend (traceOf s w) ≡ sizeFrom s total pend (onStep s q)
+  size-by total pend = ap (sizeFrom s total pend) begins
+
+  pub lead-by : linesOf (leadOf s w) ≡ linesOf (lead epl (List ℕ) frameOf s (onStep s q))
+  lead-by = ap (λ (t : Trace LabelElement Unit). linesOf (lead epl (List ℕ) frameOf s t)) begins
+
+  module _ (start : WalkState) (h : after (traceOf s start) ≡ after (traceOf s w)) where
+    pub after-by : after (traceOf s start) ≡ after (onStep s q)
+    after-by = h ∙ ap after begins
+
+    -- what is left from start, by what follows its elements
+    pub text-by : textFrom s start ≡ listingOf (labelsIn epl (List ℕ) frameOf s (leadOf s start) (after (onStep s q)))
+    text-by = ap listingOf (labels-after epl reads (List ℕ) frameOf s [] (traceOf s start) ∙ ap (labelsIn epl (List ℕ) frameOf s (leadOf s start)) after-by)
+
+-- an answer that is no element begins with none
+pub lead-none : (s : List ℕ) (q : Step) → OneOf (1 ∷ 2 ∷ 3 ∷ 4 ∷ []) (tagOf (declared enum) q) → linesOf (lead epl (List ℕ) frameOf s (onStep s q)) ≡ []
+lead-none s (Element x v) h = absurd (miss (1 ∷ 2 ∷ 3 ∷ 4 ∷ []) 0 tt h)
+lead-none s (Clear v) h = refl
+lead-none s (Print n v) h = refl
+lead-none s (End v) h = refl
+lead-none s (Refused k p v) h = refl
+
+-- the stores of one text and then of another
+pub put-both : {m n l : List ℕ} {at j r : ℕ} (xs ys : List ℕ) → Put m l at xs j → Put n m j ys r → Put n l at (xs ++ ys) r
+put-both {m} {n} {l} {at} {j} {r} xs ys a b =
+    record {
+      wrote = wrote (b .wrote .is ∙ rw (a .wrote .is, a .next) (sets-append l at xs ys));
+      next = omega (arith, a .next, b .next, length-append xs ys);
+    }
+
+-- ---- the answer of `list`, o being what the walk lists
+pub list-refused : (o : Outcome (List ℕ) Unit) (l : List ℕ) (k : Refusal) (p : ℕ) → refused (numberOf k) p ≡ sizeOf o → Lists l l o (listing.Refused k p)
+list-refused (listed ls) l k p e = let z : _≡_ {A = ℕ} 0 1 = cc in absurd (omega arith)
+list-refused (refusal-of m q) l k p e = record { answer = e; buffer = refl }
+
+pub list-short : (o : Outcome (List ℕ) Unit) (l : List ℕ) (n : ℕ) → bytes n ≡ sizeOf o → length l < n → Lists l l o (listing.Refused OutputTooShort n)
+list-short (listed ls) l n e h =
+    let m : n ≡ length (listingOf ls) = cc in
+    let b = lt-ltb (length l) (length (listingOf ls)) (omega arith) in
+    record { answer = simp (b, m); buffer = simp b }
+list-short (refusal-of m q) l n e h = let z : _≡_ {A = ℕ} 0 1 = cc in absurd (omega arith)
+
+size-bytes : (f : Final) (ls : List FramedLabel) (n : ℕ) → bytes n ≡ sizeOf (ending f ls) → n ≡ length (listingOf ls)
+size-bytes accepted ls n e = cc
+size-bytes (refusal m q) ls n e = let z : _≡_ {A = ℕ} 0 1 = cc in absurd (omega arith)
+
+written-by : (f : Final) (ls : List FramedLabel) (b l : List ℕ) (n r : ℕ) → bytes n ≡ sizeOf (ending f ls) → n ≤ length l → Put b l 0 (listingOf ls) r → Lists b l (ending f ls) (listing.Bytes r)
+written-by accepted ls b l n r e h p =
+    let m : n ≡ length (listingOf ls) = cc in
+    let q = le-ltb (length l) (length (listingOf ls)) (omega arith) in
+    let k : r ≡ length (listingOf ls) = omega (arith, p .next) in
+    record { answer = simp (q, k); buffer = simp q (p .wrote .is) }
+written-by (refusal m q) ls b l n r e h p = let z : _≡_ {A = ℕ} 0 1 = cc in absurd (omega arith)
+
+module _ (s l : List ℕ) (n : ℕ) (e : bytes n ≡ sizeOf (outcomeOf s)) where
+  abbrev labelsNow : List FramedLabel
+  labelsNow = labelsIn epl (List ℕ) frameOf s [] (traceOf s fresh)
+
+  pub list-room : n ≤ length l → length (textFrom s fresh) ≤ length l
+  list-room h = omega (arith, size-bytes (final (traceOf s fresh)) labelsNow n e)
+
+  pub list-written : (b : List ℕ) (r : ℕ) → n ≤ length l → Put b l 0 (textFrom s fresh) r → Lists b l (outcomeOf s) (listing.Bytes r)
+  list-written b r h p = written-by (final (traceOf s fresh)) labelsNow b l n r e h p

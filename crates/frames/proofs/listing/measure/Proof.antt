@@ -1,0 +1,165 @@
+-- `frames::listing::measure` meets its contract. Invariant: what is counted so far, and the rest of the walk. Measure: what is left of it.
+-- Assumes nothing.
+use mathlib.Core.Path.{_≡_, sym, ap, _∙_}
+use Prim.Native.Nat.{ℕ, _+_, _-_, _*_, _≤_}
+use native.Mathlib.Omega.{arith}
+use lib.ListN.{length}
+use Rattle.element_frames.specs.Frame.{frameOf}
+use Rattle.walk.specs.Steps.{traceOf, fresh}
+use Rattle.walk.specs.declared.state.Step.{Step}
+use Rattle.walk.specs.declared.state.Step.the-variants.{Element, Clear, Print, End, Refused}
+use Rattle.walk.specs.declared.state.WalkState.{WalkState}
+use Rattle.frames.proofs.ListingLaws.{onStep, Moved, moved-by, frame-len-le, frame-len-is, sizeFrom, size-is, size-by}
+use borrow.Author.Needs.{needs}
+use Rattle.frames.proofs.listing.measure.Statement.{statement}
+use Rattle.frames.proofs.listing.measure.Tie as tie
+
+-- an element takes a byte of the input at least, and at most 2 * 4294967295 + 1 bytes of the listing, with 11 of its label's
+abbrev Inv-loop : tie.InvT-loop
+Inv-loop input here₀ total₀ pend₀ here total pend = (sizeFrom input 0 0 (traceOf input fresh) ≡ sizeFrom input total pend (traceOf input here)) × (total + pend + 11 * here .pending ≤ 8589934602 * here .place)
+
+abbrev μ-loop : tie.MeasureT-loop
+μ-loop input here₀ total₀ pend₀ here total pend = 2 * (length input - here .place) + here .pending
+
+-- what is counted so far and the rest of the walk, by the answer that the loop matched
+counted : (d : tie.After-step Inv-loop μ-loop) (q : Step) → d .step .result ≡ q
+    → sizeFrom (d .before .before .before .before .args .input .now) 0 0 (traceOf (d .before .before .before .before .args .input .now) fresh)
+    ≡ sizeFrom (d .before .before .before .before .args .input .now) (d .before .loop .total) (d .before .loop .pend) (onStep (d .before .before .before .before .args .input .now) q)
+counted d q k =
+    let l = d .before .loop in
+    l .inv .0 ∙ size-by (d .before .before .before .before .args .input .now) (l .here) (d .step .result) q (d .step .ensures) k (l .total) (l .pend)
+
+moved : (d : tie.After-step Inv-loop μ-loop) (q : Step) → d .step .result ≡ q → Moved (d .before .before .before .before .args .input .now) (d .before .loop .here) q
+moved d q k = moved-by (d .before .before .before .before .args .input .now) (d .before .loop .here) (d .step .result) q (d .step .ensures) k
+
+-- at an element, with the length of its frame
+record Told (c : tie.After-frame-len Inv-loop μ-loop) : Type 0 where
+  short : length (c .before .before .before .before .before .before .before .before .args .input .now) ≤ 16777216
+  further : c .before .before .before .before .before .loop .here .place + 1 ≤ c .before .before .e .given .0 .1 .0 .place
+  inside : c .before .before .e .given .0 .1 .0 .place ≤ length (c .before .before .before .before .before .before .before .before .args .input .now)
+  one : c .before .before .e .given .0 .1 .0 .pending ≡ c .before .before .before .before .before .loop .here .pending + 1
+  small : c .frame-len .result ≤ 4294967295
+
+told : (c : tie.After-frame-len Inv-loop μ-loop) → Told c
+told c =
+    let m = moved (c .before .before .before .before) (Element (c .before .before .e .given .0 .0) (c .before .before .e .given .0 .1 .0)) (c .before .before .e .given .1) in
+    record {
+      short = m .0 .short;
+      further = omega (arith, m .1);
+      inside = m .2;
+      one = omega (arith, m .3);
+      small = frame-len-le (c .before .before .before .before .before .before .before .before .args .input .now) (c .before .before .e .given .0 .0) (c .frame-len .result) (c .frame-len .ensures);
+    }
+
+start-requires : tie.Need-start-requires Inv-loop μ-loop
+start-requires c κs = search needs
+
+loop-holds : tie.Need-loop-holds Inv-loop μ-loop
+loop-holds c = (ap (λ (w : WalkState). sizeFrom (c .before .before .args .input .now) 0 0 (traceOf (c .before .before .args .input .now) w)) (sym (c .start .ensures)), omega (arith, ap (λ (w : WalkState). w .pending) (c .start .ensures)))
+
+step-requires : tie.Need-step-requires Inv-loop μ-loop
+step-requires c κs = search needs
+
+enum-known-e : tie.Need-enum-known-e Inv-loop μ-loop
+enum-known-e c = search needs
+
+frame-len-requires : tie.Need-frame-len-requires Inv-loop μ-loop
+frame-len-requires c κs = search needs
+
+mul-pend : tie.Need-mul-pend Inv-loop μ-loop
+mul-pend c = omega (arith, told c .small)
+
+add-pend : tie.Need-add-pend Inv-loop μ-loop
+add-pend c = omega (arith, told c .small)
+
+add-pend-2 : tie.Need-add-pend-2 Inv-loop μ-loop
+add-pend-2 c = let t = told c in omega (arith, t .small, t .further, t .inside, t .short)
+
+loop-less : tie.Need-loop-less Inv-loop μ-loop
+loop-less c = let t = told c in omega (arith, t .further, t .inside, t .one)
+
+loop-again : tie.Need-loop-again Inv-loop μ-loop
+loop-again c =
+    let d = c .before .before .before .before in
+    let s = d .before .before .before .before .args .input .now in
+    let e = c .before .before .e .given .0 .0 in
+    let next = c .before .before .e .given .0 .1 .0 in
+    let t = told c in (
+      counted d (Element e next) (c .before .before .e .given .1) ∙ ap (λ (m : ℕ). sizeFrom s (d .before .loop .total) (d .before .loop .pend + (2 * m + 1)) (traceOf s next)) (sym (c .frame-len .ensures ∙ frame-len-is s e (t .short))),
+      omega (arith, t .small, t .further, t .one),
+    )
+
+enum-known-next : tie.Need-enum-known-next Inv-loop μ-loop
+enum-known-next c = search needs
+
+loop-less-2 : tie.Need-loop-less-2 Inv-loop μ-loop
+loop-less-2 c = let m = moved (c .before .before .before) (Clear (c .before .next .given .0 .0)) (c .before .next .given .1) in omega (arith, m .1, m .2, m .3)
+
+loop-again-2 : tie.Need-loop-again-2 Inv-loop μ-loop
+loop-again-2 c =
+    let m = moved (c .before .before .before) (Clear (c .before .next .given .0 .0)) (c .before .next .given .1) in
+    (counted (c .before .before .before) (Clear (c .before .next .given .0 .0)) (c .before .next .given .1), omega (arith, m .1, m .3))
+
+enum-known-p : tie.Need-enum-known-p Inv-loop μ-loop
+enum-known-p c = search needs
+
+add-total : tie.Need-add-total Inv-loop μ-loop
+add-total c =
+    let m = moved (c .before .before .before) (Print (c .before .p .given .0 .0) (c .before .p .given .0 .1 .0)) (c .before .p .given .1) in
+    omega (arith, m .0 .short, m .1, m .2, m .4, m .5)
+
+add-total-2 : tie.Need-add-total-2 Inv-loop μ-loop
+add-total-2 c =
+    let m = moved (c .before .before .before) (Print (c .before .p .given .0 .0) (c .before .p .given .0 .1 .0)) (c .before .p .given .1) in
+    omega (arith, m .0 .short, m .1, m .2, m .4, m .5)
+
+loop-less-3 : tie.Need-loop-less-3 Inv-loop μ-loop
+loop-less-3 c =
+    let m = moved (c .before .before .before) (Print (c .before .p .given .0 .0) (c .before .p .given .0 .1 .0)) (c .before .p .given .1) in
+    omega (arith, m .1, m .2, m .3, m .4, m .5)
+
+loop-again-3 : tie.Need-loop-again-3 Inv-loop μ-loop
+loop-again-3 c =
+    let m = moved (c .before .before .before) (Print (c .before .p .given .0 .0) (c .before .p .given .0 .1 .0)) (c .before .p .given .1) in
+    (counted (c .before .before .before) (Print (c .before .p .given .0 .0) (c .before .p .given .0 .1 .0)) (c .before .p .given .1), omega (arith, m .1, m .3, m .4, m .5))
+
+enum-known-next-2 : tie.Need-enum-known-next-2 Inv-loop μ-loop
+enum-known-next-2 c = search needs
+
+returns : tie.Need-returns Inv-loop μ-loop
+returns c = sym (size-is (c .before .before .before .before .before .before .before .args .input .now) ∙ counted (c .before .before .before) (End (c .before .next2 .given .0 .0)) (c .before .next2 .given .1))
+
+enum-known-k : tie.Need-enum-known-k Inv-loop μ-loop
+enum-known-k c = search needs
+
+returns-2 : tie.Need-returns-2 Inv-loop μ-loop
+returns-2 c = sym (size-is (c .before .before .before .before .before .before .before .args .input .now) ∙ counted (c .before .before .before) (Refused (c .before .k .given .0 .0) (c .before .k .given .0 .1 .0) (c .before .k .given .0 .1 .1 .0)) (c .before .k .given .1))
+
+pub measure-spec : {M : Type 1} → statement M
+measure-spec =
+    tie.close
+    (tie.spec
+    Inv-loop
+    μ-loop
+    start-requires
+    loop-holds
+    step-requires
+    enum-known-e
+    frame-len-requires
+    mul-pend
+    add-pend
+    add-pend-2
+    loop-less
+    loop-again
+    enum-known-next
+    loop-less-2
+    loop-again-2
+    enum-known-p
+    add-total
+    add-total-2
+    loop-less-3
+    loop-again-3
+    enum-known-next-2
+    returns
+    enum-known-k
+    returns-2)

@@ -1,0 +1,79 @@
+-- `frames::listing::put_elements` meets its contract. Invariant: with the frames that the walk still begins with, the buffer is what it
+-- shall be. Measure: what is left of the walk. Assumes nothing.
+use mathlib.Core.Path.{_≡_, refl, sym, ap, _∙_}
+use mathlib.Core.List.{List, [], _++_}
+use Prim.Native.Nat.{ℕ, _+_, _-_, _*_, _≤_}
+use native.Mathlib.Omega.{arith}
+use lib.ListN.{length}
+use Rattle.whole.specs.Trace.{lead}
+use Rattle.grammar.specs.Epl.{epl}
+use Rattle.element_frames.specs.Frame.{frameOf}
+use Rattle.element_frames.specs.Hex.{lineOf}
+use Rattle.walk.specs.declared.state.Step.{Step}
+use Rattle.walk.specs.declared.state.Step.the-variants.{Element, Clear, Print, End, Refused}
+use Rattle.frames.specs.Listing.{linesOf, leadOf}
+use Rattle.frames.proofs.Toward.{Toward, begin, room, put, finish}
+use Rattle.frames.proofs.ListingLaws.{lead-none, onStep, Moved, moved-by, lead-by}
+use borrow.Author.Needs.{needs}
+use Rattle.frames.proofs.listing.put_elements.Statement.{statement}
+use Rattle.frames.proofs.listing.put_elements.Tie as tie
+
+abbrev Inv-loop : tie.InvT-loop
+Inv-loop input out₀ at to₀ here₀ out to here = Toward out to (linesOf (leadOf input here)) out₀ at (linesOf (leadOf input here₀))
+
+abbrev μ-loop : tie.MeasureT-loop
+μ-loop input out₀ at to₀ here₀ out to here = 2 * (length input - here .place) + here .pending
+
+-- what is left to write, by the answer that the loop matched
+rest-is : (d : tie.After-step Inv-loop μ-loop) (q : Step) → d .step .result ≡ q
+    → linesOf (leadOf (d .before .before .before .before .args .input .now) (d .before .loop .here)) ≡ linesOf (lead epl (List ℕ) frameOf (d .before .before .before .before .args .input .now) (onStep (d .before .before .before .before .args .input .now) q))
+rest-is d q k = lead-by (d .before .before .before .before .args .input .now) (d .before .loop .here) (d .step .result) q (d .step .ensures) k
+
+moved : (d : tie.After-step Inv-loop μ-loop) (q : Step) → d .step .result ≡ q → Moved (d .before .before .before .before .args .input .now) (d .before .loop .here) q
+moved d q k = moved-by (d .before .before .before .before .args .input .now) (d .before .loop .here) (d .step .result) q (d .step .ensures) k
+
+loop-holds : tie.Need-loop-holds Inv-loop μ-loop
+loop-holds c = begin _ _ _
+
+step-requires : tie.Need-step-requires Inv-loop μ-loop
+step-requires c κs = search needs
+
+enum-known-e : tie.Need-enum-known-e Inv-loop μ-loop
+enum-known-e c = search needs
+
+same-length : tie.Need-same-length Inv-loop μ-loop
+same-length c = c .before .before .loop .inv .long
+
+returns : tie.Need-returns Inv-loop μ-loop
+returns c =
+    let d = c .before in
+    finish (d .before .loop .inv) (rest-is d (d .step .result) refl ∙ lead-none (d .before .before .before .before .args .input .now) (d .step .result) (c .match .keys2))
+
+put-frame-requires : tie.Need-put-frame-requires Inv-loop μ-loop
+put-frame-requires c κs =
+    let d = c .before .before .before .before in
+    let s = d .before .before .before .before .args .input .now in
+    room (d .before .loop .inv) (lineOf (frameOf s (c .before .before .e .given .0 .0))) (linesOf (leadOf s (c .before .before .e .given .0 .1 .0))) (d .before .before .before .before .pre) (rest-is d (Element (c .before .before .e .given .0 .0) (c .before .before .e .given .0 .1 .0)) (c .before .before .e .given .1))
+
+loop-less : tie.Need-loop-less Inv-loop μ-loop
+loop-less c = omega (arith, moved (c .before .before .before .before .before .before .before) (Element (c .before .before .before .before .before .e .given .0 .0) (c .before .before .before .before .before .e .given .0 .1 .0)) (c .before .before .before .before .before .e .given .1))
+
+loop-again : tie.Need-loop-again Inv-loop μ-loop
+loop-again c =
+    let d = c .before .before .before .before .before .before .before in
+    put (d .before .loop .inv) (linesOf (leadOf (d .before .before .before .before .args .input .now) (c .before .before .before .before .before .e .given .0 .1 .0))) (rest-is d (Element (c .before .before .before .before .before .e .given .0 .0) (c .before .before .before .before .before .e .given .0 .1 .0)) (c .before .before .before .before .before .e .given .1)) (c .before .before .put-frame .ensures)
+
+pub put-elements-spec : {M : Type 1} → statement M
+put-elements-spec =
+    tie.close
+    (tie.spec
+    Inv-loop
+    μ-loop
+    loop-holds
+    step-requires
+    enum-known-e
+    same-length
+    returns
+    put-frame-requires
+    loop-less
+    loop-again)

@@ -1,0 +1,133 @@
+-- `frames::listing::put_labels` meets its contract. Invariant: with the labels from start on, the buffer is what it shall be; only elements
+-- stand between start and here. Measure: what is left of the walk. Assumes nothing.
+use mathlib.Core.Path.{_≡_, refl, sym, ap, _∙_}
+use mathlib.Core.List.{List, [], _++_}
+use Prim.Native.Nat.{ℕ, _+_, _-_, _*_, _≤_}
+use native.Mathlib.Omega.{arith}
+use lib.ListN.{length}
+use Rattle.whole.specs.Trace.{labelsIn, after}
+use Rattle.grammar.specs.Epl.{epl}
+use Rattle.element_frames.specs.Frame.{frameOf}
+use Rattle.walk.specs.Steps.{traceOf}
+use Rattle.walk.specs.declared.state.WalkState.{WalkState}
+use Rattle.walk.specs.declared.state.Step.{Step}
+use Rattle.walk.specs.declared.state.Step.the-variants.{Element, Clear, Print, End, Refused}
+use Rattle.frames.specs.Listing.{listingOf, labelText, leadOf, textFrom, allText}
+use Rattle.frames.proofs.Toward.{Toward, begin, retold, room, put, finish}
+use Rattle.frames.proofs.ListingLaws.{onStep, Moved, moved-by, text-by, after-by}
+use borrow.Author.Needs.{needs}
+use Rattle.frames.proofs.listing.put_labels.Statement.{statement}
+use Rattle.frames.proofs.listing.put_labels.Tie as tie
+
+abbrev Inv-loop : tie.InvT-loop
+Inv-loop input out₀ first₀ here₀ at₀ out first here at = Toward out at (textFrom input first) out₀ 0 (allText input) × (after (traceOf input first) ≡ after (traceOf input here))
+
+abbrev μ-loop : tie.MeasureT-loop
+μ-loop input out₀ first₀ here₀ at₀ out first here at = 2 * (length input - here .place) + here .pending
+
+-- what is left to write, by the answer that the loop matched
+rest-is : (d : tie.After-step Inv-loop μ-loop) (q : Step) → d .step .result ≡ q
+    → textFrom (d .before .before .before .before .before .before .args .input .now) (d .before .loop .first) ≡ listingOf (labelsIn epl (List ℕ) frameOf (d .before .before .before .before .before .before .args .input .now) (leadOf (d .before .before .before .before .before .before .args .input .now) (d .before .loop .first)) (after (onStep (d .before .before .before .before .before .before .args .input .now) q)))
+rest-is d q k =
+    let l = d .before .loop in
+    text-by (d .before .before .before .before .before .before .args .input .now) (l .here) (d .step .result) q (d .step .ensures) k (l .first) (l .inv .1)
+
+moved : (d : tie.After-step Inv-loop μ-loop) (q : Step) → d .step .result ≡ q → Moved (d .before .before .before .before .before .before .args .input .now) (d .before .loop .here) q
+moved d q k = moved-by (d .before .before .before .before .before .before .args .input .now) (d .before .loop .here) (d .step .result) q (d .step .ensures) k
+
+start-requires : tie.Need-start-requires Inv-loop μ-loop
+start-requires c κs = search needs
+
+start-requires-2 : tie.Need-start-requires-2 Inv-loop μ-loop
+start-requires-2 c κs = search needs
+
+loop-holds : tie.Need-loop-holds Inv-loop μ-loop
+loop-holds c =
+    let a = c .before .before .before .before .args in
+    (retold (begin (a .out .now) 0 (allText (a .input .now))) (ap (textFrom (a .input .now)) (sym (c .before .start .ensures))), ap (λ (w : WalkState). after (traceOf (a .input .now) w)) (c .before .start .ensures ∙ sym (c .start2 .ensures)))
+
+step-requires : tie.Need-step-requires Inv-loop μ-loop
+step-requires c κs = search needs
+
+enum-known-e : tie.Need-enum-known-e Inv-loop μ-loop
+enum-known-e c = search needs
+
+loop-less : tie.Need-loop-less Inv-loop μ-loop
+loop-less c = omega (arith, moved (c .before .before .before) (Element (c .before .e .given .0 .0) (c .before .e .given .0 .1 .0)) (c .before .e .given .1))
+
+loop-again : tie.Need-loop-again Inv-loop μ-loop
+loop-again c =
+    let d = c .before .before .before in
+    let l = d .before .loop in
+    (l .inv .0, after-by (d .before .before .before .before .before .before .args .input .now) (l .here) (d .step .result) (Element (c .before .e .given .0 .0) (c .before .e .given .0 .1 .0)) (d .step .ensures) (c .before .e .given .1) (l .first) (l .inv .1))
+
+enum-known-next : tie.Need-enum-known-next Inv-loop μ-loop
+enum-known-next c = search needs
+
+loop-less-2 : tie.Need-loop-less-2 Inv-loop μ-loop
+loop-less-2 c = omega (arith, moved (c .before .before .before) (Clear (c .before .next .given .0 .0)) (c .before .next .given .1))
+
+loop-again-2 : tie.Need-loop-again-2 Inv-loop μ-loop
+loop-again-2 c = (retold (c .before .before .before .before .loop .inv .0) (rest-is (c .before .before .before) (Clear (c .before .next .given .0 .0)) (c .before .next .given .1)), refl)
+
+enum-known-p : tie.Need-enum-known-p Inv-loop μ-loop
+enum-known-p c = search needs
+
+put-label-requires : tie.Need-put-label-requires Inv-loop μ-loop
+put-label-requires c κs =
+    let d = c .before .before .before .before in
+    let l = d .before .loop in
+    room (l .inv .0) (labelText (d .before .before .before .before .before .before .args .input .now) (c .before .before .p .given .0 .0 .count) (l .first)) (textFrom (d .before .before .before .before .before .before .args .input .now) (c .before .before .p .given .0 .1 .0)) (omega arith) (rest-is d (Print (c .before .before .p .given .0 .0) (c .before .before .p .given .0 .1 .0)) (c .before .before .p .given .1))
+
+loop-less-3 : tie.Need-loop-less-3 Inv-loop μ-loop
+loop-less-3 c = omega (arith, moved (c .before .before .before .before .before .before .before) (Print (c .before .before .before .before .before .p .given .0 .0) (c .before .before .before .before .before .p .given .0 .1 .0)) (c .before .before .before .before .before .p .given .1))
+
+loop-again-3 : tie.Need-loop-again-3 Inv-loop μ-loop
+loop-again-3 c =
+    let d = c .before .before .before .before .before .before .before in
+    (put (d .before .loop .inv .0) (textFrom (d .before .before .before .before .before .before .args .input .now) (c .before .before .before .before .before .p .given .0 .1 .0)) (rest-is d (Print (c .before .before .before .before .before .p .given .0 .0) (c .before .before .before .before .before .p .given .0 .1 .0)) (c .before .before .before .before .before .p .given .1)) (c .before .before .put-label .ensures), refl)
+
+enum-known-next-2 : tie.Need-enum-known-next-2 Inv-loop μ-loop
+enum-known-next-2 c = search needs
+
+same-length : tie.Need-same-length Inv-loop μ-loop
+same-length c = c .before .before .before .before .loop .inv .0 .long
+
+returns : tie.Need-returns Inv-loop μ-loop
+returns c = finish (c .before .before .before .before .loop .inv .0) (rest-is (c .before .before .before) (End (c .before .next2 .given .0 .0)) (c .before .next2 .given .1))
+
+enum-known-k : tie.Need-enum-known-k Inv-loop μ-loop
+enum-known-k c = search needs
+
+same-length-2 : tie.Need-same-length-2 Inv-loop μ-loop
+same-length-2 c = c .before .before .before .before .loop .inv .0 .long
+
+returns-2 : tie.Need-returns-2 Inv-loop μ-loop
+returns-2 c = finish (c .before .before .before .before .loop .inv .0) (rest-is (c .before .before .before) (Refused (c .before .k .given .0 .0) (c .before .k .given .0 .1 .0) (c .before .k .given .0 .1 .1 .0)) (c .before .k .given .1))
+
+pub put-labels-spec : {M : Type 1} → statement M
+put-labels-spec =
+    tie.close
+    (tie.spec
+    Inv-loop
+    μ-loop
+    start-requires
+    start-requires-2
+    loop-holds
+    step-requires
+    enum-known-e
+    loop-less
+    loop-again
+    enum-known-next
+    loop-less-2
+    loop-again-2
+    enum-known-p
+    put-label-requires
+    loop-less-3
+    loop-again-3
+    enum-known-next-2
+    same-length
+    returns
+    enum-known-k
+    same-length-2
+    returns-2)

@@ -1,0 +1,125 @@
+// 01's listing: a label is its frame 00, then the frames of its elements; one line a frame, in hexadecimal. The whole file is walked before anything is written.
+ghost use mathlib.Core.Path.{_≡_};
+ghost use Prim.Native.Nat.{_+_, _≤_};
+ghost use lib.ListN.{length};
+ghost use Rattle.element_frames.specs.Put.{Put};
+ghost use Rattle.frames.specs.Listing.{linesOf, leadOf, labelText, allText, givenOf, sizeOf, outcomeOf, Lists};
+use element_frames::frame::frame_len;
+use element_frames::frame::put_count;
+use element_frames::frame::put_frame;
+use elements::refusal::Refusal;
+use walk::state::Step;
+use walk::state::WalkState;
+use walk::state::start;
+use walk::step::step;
+
+// A listing's length; or why there is none, and its place.
+pub enum Listed {
+    Bytes(usize),
+    Refused(Refusal, usize),
+}
+
+// The lines of the elements from st up to the first answer that is none.
+fn put_elements(input: &[u8], out: &mut [u8], at: usize, st: WalkState) -> usize
+    requires { ⌜ at + length (linesOf (leadOf (now input) st)) ≤ length (now out) ⌝ }
+    ensures { λ r. ⌜ Put (now (out .exit)) (now (out .entry)) at (linesOf (leadOf (now (input .entry)) st)) r ⌝ }
+{
+    let mut to = at;
+    let mut here = st;
+    loop {
+        let Step::Element(e, next) = step(input, here) else {
+            return to;
+        };
+        to = put_frame(input, out, to, e);
+        here = next;
+    }
+}
+
+// A label of n elements, which begin at first.
+fn put_label(input: &[u8], out: &mut [u8], at: usize, n: usize, first: WalkState) -> usize
+    requires { ⌜ at + length (labelText (now input) n first) ≤ length (now out) ⌝ }
+    ensures { λ r. ⌜ Put (now (out .exit)) (now (out .entry)) at (labelText (now (input .entry)) n first) r ⌝ }
+{
+    let to = put_count(out, at, n);
+    put_elements(input, out, to, first)
+}
+
+// The labels that the walk answers before its end or refusal. Each is walked twice: to its print for the count, then for its frames.
+fn put_labels(input: &[u8], out: &mut [u8]) -> usize
+    requires { ⌜ length (allText (now input)) ≤ length (now out) ⌝ }
+    ensures { λ r. ⌜ Put (now (out .exit)) (now (out .entry)) 0 (allText (now (input .entry))) r ⌝ }
+{
+    let mut first = start();
+    let mut here = start();
+    let mut at = 0;
+    loop {
+        match step(input, here) {
+            Step::Element(e, next) => {
+                here = next;
+            }
+            Step::Clear(next) => {
+                first = next;
+                here = next;
+            }
+            Step::Print(p, next) => {
+                at = put_label(input, out, at, p.count, first);
+                first = next;
+                here = next;
+            }
+            Step::End(next) => {
+                return at;
+            }
+            Step::Refused(k, p, next) => {
+                return at;
+            }
+        }
+    }
+}
+
+// The length of the listing, or the refusal of the walk: one walk over the whole input, nothing written.
+pub fn measure(input: &[u8]) -> Listed
+    ensures { λ r. ⌜ givenOf r ≡ sizeOf (outcomeOf (now (input .entry))) ⌝ }
+{
+    let mut here = start();
+    let mut total = 0;
+    let mut pend = 0;
+    loop {
+        match step(input, here) {
+            Step::Element(e, next) => {
+                let n = frame_len(input, e);
+                pend += 2 * n + 1;
+                here = next;
+            }
+            Step::Clear(next) => {
+                pend = 0;
+                here = next;
+            }
+            Step::Print(p, next) => {
+                total += 11 + pend;
+                pend = 0;
+                here = next;
+            }
+            Step::End(next) => {
+                return Listed::Bytes(total);
+            }
+            Step::Refused(k, p, next) => {
+                return Listed::Refused(k, p);
+            }
+        }
+    }
+}
+
+// All labels' frames from the start of out, or a refusal: the walk's, or 15 with the length needed.
+pub fn list(input: &[u8], out: &mut [u8]) -> Listed
+    ensures { λ r. ⌜ Lists (now (out .exit)) (now (out .entry)) (outcomeOf (now (input .entry))) r ⌝ }
+{
+    match measure(input) {
+        Listed::Refused(k, p) => Listed::Refused(k, p),
+        Listed::Bytes(n) => {
+            if out.len() < n {
+                return Listed::Refused(Refusal::OutputTooShort, n);
+            }
+            Listed::Bytes(put_labels(input, out))
+        }
+    }
+}

@@ -1,0 +1,27 @@
+-- Every row of the table of starred cases holds, by computation; the one width that is divided, by `width-exact`.
+-- Assumes nothing.
+use mathlib.Core.Path.{refl}
+use lib.Dec.{lit<}
+use Rattle.text.specs.Fields.{before, after, beforeLast, fields, withoutTrailingCommas}
+use Rattle.text.specs.Number.{numberOf}
+use Rattle.parameters.specs.Params.{numberAt, sizeAt, pointAt, typeAt, exactly}
+use Rattle.parameters.specs.Position.{placed}
+use Rattle.parameters.specs.Rotation.{rotationOf}
+use Rattle.texts.specs.Font.{cellOf, fontOf}
+use Rattle.texts.specs.Text.{scaleAt, textFields, textElement, textReading}
+use Rattle.texts.proofs.FontLaws.{width-exact}
+use Rattle.draws.specs.Draw.{lineFields, lineElement, lineReading, cornersAt, extentOf, drawnAt, diagonalReading, boxReading}
+use Rattle.graphics.specs.Block.{opensGw, closes, afterHeaderField, headerNumber, fourClosed, payloadOf, gwNumbers, measured, gwSpan}
+use Rattle.spelling.specs.Command.{isReference, isPrint, commandOf}
+use Rattle.spelling.specs.Reference.{referenceOf}
+use Rattle.commands.specs.Line.{paramsOf, quotedReading, readLine}
+use Rattle.whole.specs.Step.{handing, answer, step}
+use Rattle.grammar.specs.WellFormed.{wellFormed, faultOf}
+use Rattle.grammar.specs.Found.{first}
+use Rattle.laddertick.specs.Starred.{Holds, table}
+
+-- a proof for each row, in the table's order
+pub starred : Holds table
+unfolding before after beforeLast fields withoutTrailingCommas numberOf numberAt sizeAt pointAt typeAt exactly placed rotationOf isReference isPrint commandOf referenceOf cellOf fontOf scaleAt textFields textElement textReading lineFields lineElement lineReading cornersAt extentOf drawnAt diagonalReading boxReading paramsOf quotedReading readLine opensGw closes afterHeaderField headerNumber fourClosed payloadOf gwNumbers measured gwSpan handing answer step wellFormed faultOf first
+starred =
+    (refl, (refl, (refl, (refl, (refl, (refl, (refl, (refl, (refl, (rw (width-exact 12 16 (lit< tt) (lit< tt) (lit< tt)), (refl, (refl, (refl, (refl, (refl, (refl, (refl, (refl, (refl, (refl, (refl, tt)))))))))))))))))))))

@@ -1,0 +1,65 @@
+-- What is claimed of the walk and of the listing, for every byte string of at most 16,777,216 bytes. Read first; each name leads to its definition.
+use mathlib.Core.Path.{_≡_}
+use mathlib.Core.Bool.{true, false}
+use mathlib.Core.List.{List, []}
+use Prim.Native.Nat.{ℕ, _*_, _≤_}
+use lib.ListN.{length}
+use Rattle.text.specs.Blank.{trim}
+use Rattle.elements.specs.declared.label_element.LabelElement.{LabelElement}
+use Rattle.elements.specs.declared.label_position.LabelPosition.{LabelPosition}
+use Rattle.elements.specs.declared.refusal.Refusal.{Refusal}
+use Rattle.elements.specs.declared.refusal.Refusal.the-variants.{OutOfRange}
+use Rattle.elements.specs.Refusals.{numberOf}
+use Rattle.element_frames.specs.Frame.{frameOf}
+use Rattle.parameters.specs.declared.reading.Reading.the-variants.{Refused}
+use Rattle.commands.specs.Line.{readLine}
+use Rattle.whole.specs.Division.{Division}
+use Rattle.whole.specs.Labels.{labels, labelsOf, Fails}
+use Rattle.whole.specs.Step.{Answer, longest}
+use Rattle.whole.specs.Reach.{Final, accepted, refusal, Reach, answered}
+use Rattle.whole.specs.Trace.{Outcome, listed, refusal-of}
+use Rattle.grammar.specs.WellFormed.{wellFormed, faultOf}
+use Rattle.grammar.specs.Units.{EplUnit}
+use Rattle.grammar.specs.Epl.{origin, epl}
+use Rattle.walk.specs.Steps.{fresh, stateOf}
+use Rattle.frames.specs.Listing.{FramedLabel, listingOf, outcomeOf}
+use Rattle.frames.specs.Printing.{printedOf, shownOf}
+use Rattle.laddertick.specs.Starred.{Holds, table}
+
+-- "the string divides end to end into graphic blocks and command lines by 01's grammar with every position and size within signed 32 bits", and has these labels
+pub record Divides (s : List ℕ) (ls : List FramedLabel) : Type 0 where
+  pub units : List EplUnit
+  pub division : Division epl s units
+  pub range : labelsOf epl (List ℕ) frameOf origin [] units ≡ labels ls
+
+-- the whole walk of s from the fresh state, each step given the state that the last one returned; `step` of the crate `walk` is proved equal to `step epl`
+pub record Walk (s : List ℕ) : Type 0 where
+  -- "No string divides in two ways"
+  pub one-division : (us vs : List EplUnit) → Division epl s us → Division epl s vs → us ≡ vs
+  -- the steps reach an end, the end of the string or a refusal, and no other
+  pub answers : List (Answer LabelPosition LabelElement Unit)
+  pub final : Final
+  pub reached : Reach epl s (stateOf fresh) answers final
+  pub one-walk : (ys : List (Answer LabelPosition LabelElement Unit)) (f : Final) → Reach epl s (stateOf fresh) ys f → (ys ≡ answers) × (f ≡ final)
+  -- "the steps reach the end exactly when the string divides"; "It is then accepted and the labels answered are those of its division"
+  pub divides-accepted : (ls : List FramedLabel) → Divides s ls → (final ≡ accepted) × (answered epl (List ℕ) frameOf s [] answers ≡ ls)
+  pub accepted-divides : final ≡ accepted → (ls : List FramedLabel) × Divides s ls
+  -- "otherwise the steps reach a refusal"
+  pub else-refused : ((ls : List FramedLabel) → Divides s ls → ⊥) → (n : ℕ) × (p : ℕ) × (final ≡ refusal n p)
+  -- of the earliest refused unit: at fault as it stands, or out of range
+  pub earliest : (n p : ℕ) → final ≡ refusal n p → Fails epl (List ℕ) frameOf s 0 origin [] n p
+  -- what `list` writes, by its contract (`Lists`, in the crate `frames`), is the listing of the division's labels, or that refusal
+  pub lists-division : (ls : List FramedLabel) → Divides s ls → outcomeOf s ≡ listed ls
+  pub lists-refusal : (n p : ℕ) → final ≡ refusal n p → outcomeOf s ≡ refusal-of n p
+
+pub record Claims : Type 0 where
+  -- demand 3, as far as it speaks of the walk
+  pub walk : (s : List ℕ) → length s ≤ longest → Walk s
+  -- demand 2: the reader of a line refuses 1 to 9 exactly where the line is not well formed, with 01's number; a well-formed one it refuses only as 13
+  pub ill-formed : (t : List ℕ) (r : LabelPosition) → wellFormed (trim t) ≡ false → (n : Refusal) × (readLine t r ≡ Refused n) × (numberOf n ≡ faultOf (trim t))
+  pub well-formed : (t : List ℕ) (r : LabelPosition) (n : Refusal) → wellFormed (trim t) ≡ true → readLine t r ≡ Refused n → n ≡ OutOfRange
+  -- the listing program's buffer always has room: no listing has more than 16 bytes for each byte of its input, and 15 is never printed
+  pub room : (s : List ℕ) (ls : List FramedLabel) → outcomeOf s ≡ listed ls → length (listingOf ls) ≤ 16 * length s
+  pub never-15 : (s : List ℕ) → length s ≤ 65536 → printedOf s 1048576 ≡ shownOf (outcomeOf s)
+  -- 01's starred cases
+  pub starred : Holds table

@@ -1,0 +1,8 @@
+// The host's entry points: a walk a step at a time, and the listing of a file. What is claimed of them stands in specs/Claims.antt.
+pub use frames::listing::Listed;
+pub use frames::listing::list;
+pub use walk::state::Printed;
+pub use walk::state::Step;
+pub use walk::state::WalkState;
+pub use walk::state::start;
+pub use walk::step::step;
