@@ -1,0 +1,2 @@
+-- flat answers
+pub mod FlatLaws

@@ -1,0 +1,61 @@
+-- `laddertick_c::laddertick_list` meets its contract. Assumes nothing.
+use Rattle.frames.specs.Listing.{outcomeOf}
+use Rattle.frames.proofs.PrintingLaws.{lists-long}
+use Rattle.laddertick_c.proofs.FlatLaws.{flat-listed, flat-refused}
+use borrow.Author.Needs.{needs}
+use Rattle.laddertick_c.proofs.laddertick_list.Statement.{statement}
+use Rattle.laddertick_c.proofs.laddertick_list.Tie as tie
+
+list-requires : tie.Need-list-requires
+list-requires c κs = search needs
+
+enum-known-n : tie.Need-enum-known-n
+enum-known-n c = search needs
+
+enum-known-k : tie.Need-enum-known-k
+enum-known-k c = search needs
+
+number-requires : tie.Need-number-requires
+number-requires c κs = search needs
+
+cast-t11 : tie.Need-cast-t11
+cast-t11 c = search needs
+
+same-length : tie.Need-same-length
+same-length c =
+    let l = c .before .before .before .before .before in
+    let a = l .before .before .before .before .args in
+    lists-long (outcomeOf (a .input .now)) _ (a .out .now) (l .list .result) (l .list .ensures)
+
+returns : tie.Need-returns
+returns c =
+    let l = c .before .before .before .before .before in
+    let a = l .before .before .before .before .args in
+    flat-listed _ (a .out .now) (outcomeOf (a .input .now)) (l .list .result) (l .list .ensures) (c .before .n .given .0 .0) (c .before .n .given .1)
+
+same-length-2 : tie.Need-same-length-2
+same-length-2 c =
+    let l = c .before .before .before .before .before .before in
+    let a = l .before .before .before .before .args in
+    lists-long (outcomeOf (a .input .now)) _ (a .out .now) (l .list .result) (l .list .ensures)
+
+returns-2 : tie.Need-returns-2
+returns-2 c =
+    let k = c .before .before .k in
+    let l = c .before .before .before .before .before .before in
+    let a = l .before .before .before .before .args in
+    flat-refused _ (a .out .now) (outcomeOf (a .input .now)) (l .list .result) (l .list .ensures) (k .given .0 .0) (k .given .0 .1 .0) (c .number .result) (k .given .1) (c .number .ensures)
+
+pub laddertick-list-spec : {M : Type 1} → statement M
+laddertick-list-spec =
+    tie.close
+    (tie.spec
+    list-requires
+    enum-known-n
+    enum-known-k
+    number-requires
+    cast-t11
+    same-length
+    returns
+    same-length-2
+    returns-2)

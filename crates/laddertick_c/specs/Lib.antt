@@ -1,0 +1,2 @@
+-- the flat answers of the static library
+pub mod Flat

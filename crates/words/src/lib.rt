@@ -1,2 +1,0 @@
-// Answers in words and numbers, for test programs.
-pub mod show;

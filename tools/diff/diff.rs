@@ -1,0 +1,178 @@
+//! The differential run: the Rust of docs/src and the static library get the same inputs and must give 01's answers. Short strings
+//! come first, all of them, then a few inputs around the length limit, then as many millions of made ones as asked for.
+
+mod compare;
+mod short;
+
+use compare::{compare, Lent};
+use inputs::Maker;
+use oracle::panics::{self, Cause};
+use oracle::{Answer, LIMIT};
+use std::sync::atomic::{AtomicUsize, Ordering::Relaxed};
+use std::time::{Duration, Instant};
+
+const THREADS: usize = 2;
+/// Cases of one piece of work; its inputs hang on its number and the seed, not on the thread.
+const PIECE: usize = 10_000;
+/// Differences that are printed, the time to make one short, and the bytes of one.
+const SHOWN: usize = 20;
+const PATIENCE: Duration = Duration::from_secs(5);
+const LONGEST_REPORT: usize = 10_000;
+
+fn main() {
+    let mut words = std::env::args().skip(1).map(|word| word.parse().expect("a number"));
+    let millions: u64 = words.next().expect("how many millions");
+    let run = Run { seed: words.next().unwrap_or(1), ..Run::default() };
+    let pieces = short::SETTINGS.len() + 1 + millions as usize * 1_000_000 / PIECE;
+    std::thread::scope(|scope| {
+        let threads: Vec<_> = (0..THREADS).map(|_| scope.spawn(|| run.work(pieces))).collect();
+        while !threads.iter().all(|t| t.is_finished()) {
+            std::thread::sleep(Duration::from_secs(1));
+            eprintln!("{} cases, {} differences", run.cases.load(Relaxed), run.differences.load(Relaxed));
+        }
+    });
+    let count = |counter: &AtomicUsize| counter.load(Relaxed);
+    let by_number: Vec<_> = (1..=14).map(|n| format!("{n}: {}", count(&run.refused[n]))).collect();
+    eprintln!("refused by number: {}", by_number.join(", "));
+    let (cases, differences, accepted) = (count(&run.cases), count(&run.differences), count(&run.accepted));
+    let refused: usize = run.refused.iter().map(count).sum();
+    let [range, kind, maxicode] = [0, 1, 2].map(|i| count(&run.panics[i]));
+    let panics = range + kind + maxicode;
+    println!(
+        "{cases} cases, {differences} differences, \
+         {panics} panics of the Rust (13: {range}, 7/8/9: {kind}, MaxiCode: {maxicode}), accepted {accepted}, refused {refused}"
+    );
+    std::process::exit((differences > 0) as i32);
+}
+
+/// What the threads share: the next piece of work, and counts.
+#[derive(Default)]
+struct Run {
+    seed: u64,
+    next: AtomicUsize,
+    cases: AtomicUsize,
+    differences: AtomicUsize,
+    accepted: AtomicUsize,
+    /// By 01's number.
+    refused: [AtomicUsize; 15],
+    /// By cause: 13; 7, 8 or 9; MaxiCode.
+    panics: [AtomicUsize; 3],
+}
+
+impl Run {
+    fn work(&self, pieces: usize) {
+        let mut lent = Lent::default();
+        loop {
+            let piece = self.next.fetch_add(1, Relaxed);
+            if piece >= pieces {
+                return;
+            }
+            match short::SETTINGS.get(piece) {
+                Some(setting) => setting.each(|input| self.case(&mut lent, input)),
+                None if piece == short::SETTINGS.len() => long_inputs().iter().for_each(|input| self.case(&mut lent, input)),
+                None => {
+                    let mut maker = Maker::new(self.seed << 32 | piece as u64, 0);
+                    (0..PIECE).for_each(|_| self.case(&mut lent, &made(&mut maker)));
+                }
+            }
+        }
+    }
+
+    fn case(&self, lent: &mut Lent, input: &[u8]) {
+        let (expected, cause) = panics::answer(input);
+        match expected {
+            Answer::Refused(number, _) => self.refused[number as usize].fetch_add(1, Relaxed),
+            _ => self.accepted.fetch_add(1, Relaxed),
+        };
+        if let Some(cause) = cause {
+            let kind = [Cause::Range, Cause::TypeOrSize, Cause::Maxicode].iter().position(|&c| c == cause);
+            self.panics[kind.unwrap()].fetch_add(1, Relaxed);
+        }
+        self.cases.fetch_add(1, Relaxed);
+        if let Err(wrong) = compare(lent, input, &expected) {
+            if self.differences.fetch_add(1, Relaxed) < SHOWN {
+                let (input, wrong) = cut_down(lent, input, wrong);
+                let expected = panics::answer(&input).0.lines();
+                let text = format!("input: \"{}\"\nexpected:\n{expected}ours, {wrong}\n", input.escape_ascii());
+                println!("{}", text.get(..LONGEST_REPORT).unwrap_or(&text));
+            }
+        }
+    }
+}
+
+/// Takes parts out of an input for as long as a difference stays, for some seconds. The shorter input, and what is wrong there.
+fn cut_down(lent: &mut Lent, input: &[u8], wrong: String) -> (Vec<u8>, String) {
+    let start = Instant::now();
+    let (mut input, mut wrong) = (input.to_vec(), wrong);
+    let mut part = input.len() / 2;
+    while part > 0 {
+        let mut at = 0;
+        while at + part <= input.len() && start.elapsed() < PATIENCE {
+            let shorter = [&input[..at], &input[at + part..]].concat();
+            match compare(lent, &shorter, &panics::answer(&shorter).0) {
+                Err(now) => (input, wrong) = (shorter, now),
+                Ok(()) => at += part,
+            }
+        }
+        part /= 2;
+    }
+    (input, wrong)
+}
+
+/// An input of one of the kinds, more or less odd.
+fn made(maker: &mut Maker) -> Vec<u8> {
+    maker.odd = [0, 60, 20, 8, 3][maker.rng.below(5)];
+    match maker.rng.below(16) {
+        0..=3 => maker.file(8),
+        4..=5 => at_the_limit(maker),
+        6 => maker.label(),
+        7 => maker.graphics(60),
+        8 if maker.rng.one_in(40) => maker.graphics(6_000),
+        8 if maker.rng.one_in(200) => qr_sizes(maker),
+        8..=9 => maker.unit(),
+        10 => maker.tokens(16),
+        11 => maker.bytes(32),
+        12 => {
+            let label = maker.label();
+            maker.damaged(&label)
+        }
+        13 => {
+            let graphics = maker.graphics(60);
+            maker.damaged(&graphics)
+        }
+        _ => {
+            let file = maker.file(6);
+            maker.damaged(&file)
+        }
+    }
+}
+
+/// A reference near the limits of 32 bits, and a file behind it.
+fn at_the_limit(maker: &mut Maker) -> Vec<u8> {
+    let near = |maker: &mut Maker| i32::MAX as i64 - maker.rng.below(1_000) as i64;
+    let x = near(maker);
+    let y = if maker.rng.one_in(2) { near(maker) } else { -near(maker) };
+    [format!("R{x},{y}\n").into_bytes(), maker.file(3)].concat()
+}
+
+/// QR data of about 9,999 bytes once decoded.
+fn qr_sizes(maker: &mut Maker) -> Vec<u8> {
+    let part = [&b"7"[..], b"\xff", b"\xc3\xa9", b"\xe2\x82", b"\xf0\x9f\x98", b"\xf0\x9f\x98\x80"][maker.rng.below(6)];
+    let decoded = String::from_utf8_lossy(part).len();
+    let odd = vec![b'7'; maker.rng.below(8)];
+    [b"N\nb1,2,Q,\"", &*part.repeat(9_996 / decoded), &odd, b"\"\n"].concat()
+}
+
+/// Inputs around the limit of 16,777,216 bytes.
+fn long_inputs() -> Vec<Vec<u8>> {
+    let text = [b"A1,2,0,1,1,1,N,\"", &*vec![b'x'; LIMIT - 18], b"\"\n"].concat();
+    let block = [b"GW1,2,1024,16383,", &*vec![b'\n'; 1024 * 16_383]].concat();
+    vec![
+        vec![b'\n'; LIMIT],
+        vec![b'\n'; LIMIT + 1],
+        [b"LO1\n", &*vec![b' '; LIMIT]].concat(),
+        [&*vec![b' '; LIMIT - 3], b"LO1"].concat(),
+        text,
+        block,
+    ]
+}
