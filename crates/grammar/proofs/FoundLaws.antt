@@ -23,7 +23,7 @@ use Rattle.grammar.proofs.LineLaws.{Cut, TextLine, opens-line, line-fin
 use Rattle.grammar.proofs.BlockLaws.{block-finds, Spanned, span-sound, span-none, none-opens}
 
 -- ---- a command line
-judged-sound : (o : First EplUnit) (u : EplUnit) (rest : List ℕ) → judged o ≡ unit u rest → (o ≡ unit u rest) × (wellFormed (trim (said u)) ≡ true)
+pub judged-sound : (o : First EplUnit) (u : EplUnit) (rest : List ℕ) → judged o ≡ unit u rest → (o ≡ unit u rest) × (wellFormed (trim (said u)) ≡ true)
 judged-sound none u rest e = absurd (none≢unit e)
 judged-sound (bad n) u rest e = absurd (bad≢unit e)
 judged-sound (unit v r) u rest e =

@@ -31,7 +31,7 @@ module _ (p : ℕ → Bool) where
   front-passes t all-nil = refl
   front-passes t (all-cons h a) = simp (h, front-passes t a)
 
-  drop-passes : {s : List ℕ} (t : List ℕ) → All p s → dropWhile p (s ++ t) ≡ dropWhile p t
+  pub drop-passes : {s : List ℕ} (t : List ℕ) → All p s → dropWhile p (s ++ t) ≡ dropWhile p t
   drop-passes t all-nil = refl
   drop-passes t (all-cons h a) = simp (h, drop-passes t a)
 

@@ -45,7 +45,7 @@ read-some c lead t r e h =
     (λ k. let n = eqb-false (length (quoted t)) 0 k in omega arith)
 
 -- the blanks before a line, and what is left of it
-lead-le : (t : List ℕ) → leadOf t + length (trim t) ≤ length t
+pub lead-le : (t : List ℕ) → leadOf t + length (trim t) ≤ length t
 lead-le t =
     let a = ap length (trim-start-is t) ∙ length-drop (length t - length (trimStart t)) t in
     let b = ap length (trim-end-is (trimStart t)) ∙ length-take (length (trim t)) (trimStart t) in

@@ -6,5 +6,7 @@ pub mod Units
 pub mod Found
 -- EPL as a language of units
 pub mod Epl
+-- 01, "format.rs": normalised text
+pub mod Normal
 -- a line as a reader of one unit answers it
 pub mod Turn

@@ -1,8 +1,9 @@
--- What is claimed of the walk and of the listing, for every byte string of at most 16,777,216 bytes. Read first; each name leads to its definition.
+-- What is claimed of the walk, of normalised text and of the listing, for every byte string of at most 16,777,216 bytes. Read first; each name leads to its
+-- definition.
 use mathlib.Core.Path.{_≡_}
 use mathlib.Core.Bool.{true, false}
 use mathlib.Core.List.{List, []}
-use Prim.Native.Nat.{ℕ, _*_, _≤_}
+use Prim.Native.Nat.{ℕ, _+_, _*_, _/_, _≤_}
 use lib.ListN.{length}
 use Rattle.text.specs.Blank.{trim}
 use Rattle.elements.specs.declared.label_element.LabelElement.{LabelElement}
@@ -18,9 +19,11 @@ use Rattle.whole.specs.Labels.{labels, labelsOf, Fails}
 use Rattle.whole.specs.Step.{Answer, longest}
 use Rattle.whole.specs.Reach.{Final, accepted, refusal, Reach, answered}
 use Rattle.whole.specs.Trace.{Outcome, listed, refusal-of}
+use Rattle.whole.specs.Normal.{each}
 use Rattle.grammar.specs.WellFormed.{wellFormed, faultOf}
 use Rattle.grammar.specs.Units.{EplUnit}
 use Rattle.grammar.specs.Epl.{origin, epl}
+use Rattle.grammar.specs.Normal.{blocks, normalised}
 use Rattle.walk.specs.Steps.{fresh, stateOf}
 use Rattle.frames.specs.Listing.{FramedLabel, listingOf, outcomeOf}
 use Rattle.frames.specs.Printing.{printedOf, shownOf}
@@ -32,8 +35,21 @@ pub record Divides (s : List ℕ) (ls : List FramedLabel) : Type 0 where
   pub division : Division epl s units
   pub range : labelsOf epl (List ℕ) frameOf origin [] units ≡ labels ls
 
+-- the normalised text of a string that divides and has these labels; `normalise` of the crate `format` is proved to write `normalised s`
+pub record Normalising (s : List ℕ) (ls : List FramedLabel) : Type 0 where
+  -- "The normalised text of an accepted string of n bytes has at most n + n/6 + 1 bytes"
+  pub size : length (normalised s) ≤ length s + length s / 6 + 1
+  -- "if it too is within the limit it is accepted with the same labels": the steps over it reach the end, and these are the labels answered
+  pub accepted-alike : length (normalised s) ≤ longest
+      → (xs : List (Answer LabelPosition LabelElement Unit)) × Reach epl (normalised s) (stateOf fresh) xs accepted × (answered epl (List ℕ) frameOf (normalised s) [] xs ≡ ls)
+  -- "normalising it again changes nothing"
+  pub again : normalised (normalised s) ≡ normalised s
+  -- "its graphic blocks are the string's, byte for byte, in order and no others"
+  pub divides : Divides (normalised s) ls
+  pub same-blocks : (us vs : List EplUnit) → Division epl s us → Division epl (normalised s) vs → each blocks vs ≡ each blocks us
+
 -- the whole walk of s from the fresh state, each step given the state that the last one returned; `step` of the crate `walk` is proved equal to `step epl`
-pub record Walk (s : List ℕ) : Type 0 where
+pub record Demand3 (s : List ℕ) : Type 0 where
   -- "No string divides in two ways"
   pub one-division : (us vs : List EplUnit) → Division epl s us → Division epl s vs → us ≡ vs
   -- the steps reach an end, the end of the string or a refusal, and no other
@@ -48,13 +64,14 @@ pub record Walk (s : List ℕ) : Type 0 where
   pub else-refused : ((ls : List FramedLabel) → Divides s ls → ⊥) → (n : ℕ) × (p : ℕ) × (final ≡ refusal n p)
   -- of the earliest refused unit: at fault as it stands, or out of range
   pub earliest : (n p : ℕ) → final ≡ refusal n p → Fails epl (List ℕ) frameOf s 0 origin [] n p
+  pub normalising : (ls : List FramedLabel) → Divides s ls → Normalising s ls
   -- what `list` writes, by its contract (`Lists`, in the crate `frames`), is the listing of the division's labels, or that refusal
   pub lists-division : (ls : List FramedLabel) → Divides s ls → outcomeOf s ≡ listed ls
   pub lists-refusal : (n p : ℕ) → final ≡ refusal n p → outcomeOf s ≡ refusal-of n p
 
 pub record Claims : Type 0 where
-  -- demand 3, as far as it speaks of the walk
-  pub walk : (s : List ℕ) → length s ≤ longest → Walk s
+  -- demand 3, whole
+  pub whole-walk : (s : List ℕ) → length s ≤ longest → Demand3 s
   -- demand 2: the reader of a line refuses 1 to 9 exactly where the line is not well formed, with 01's number; a well-formed one it refuses only as 13
   pub ill-formed : (t : List ℕ) (r : LabelPosition) → wellFormed (trim t) ≡ false → (n : Refusal) × (readLine t r ≡ Refused n) × (numberOf n ≡ faultOf (trim t))
   pub well-formed : (t : List ℕ) (r : LabelPosition) (n : Refusal) → wellFormed (trim t) ≡ true → readLine t r ≡ Refused n → n ≡ OutOfRange

@@ -3,3 +3,4 @@ pub mod StepLaws
 pub mod Whole
 pub mod TurnLaws
 pub mod TraceLaws
+pub mod Again

@@ -12,5 +12,7 @@ pub mod Reading
 pub mod Reach
 -- the whole walk as one value, and how each answer moves it on
 pub mod Trace
+-- 01, "format.rs": normalised text
+pub mod Normal
 -- what a language of units has to show, and what follows
 pub mod Claims
