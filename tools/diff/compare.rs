@@ -2,17 +2,20 @@
 
 use oracle::Answer;
 
-/// What `laddertick_list` gives back. Number 0: listed, the place is the length written. Else 01's number and place.
+/// What a function of the library gives back. Number 0: the place is the length written. Else 01's number and place.
 #[repr(C)]
 #[derive(Clone, Copy, Debug, PartialEq, Eq)]
-struct Listing {
+struct Written {
     number: u32,
     place: usize,
 }
 
+/// A slice goes as pointer and length.
+type Function = unsafe extern "C" fn(*const u8, usize, *mut u8, usize) -> Written;
+
 extern "C" {
-    // A slice goes as pointer and length.
-    fn laddertick_list(input: *const u8, input_len: usize, out: *mut u8, out_len: usize) -> Listing;
+    fn laddertick_list(input: *const u8, input_len: usize, out: *mut u8, out_len: usize) -> Written;
+    fn laddertick_normalise(input: *const u8, input_len: usize, out: *mut u8, out_len: usize) -> Written;
 }
 
 /// Bytes on either side of what is lent.
@@ -30,7 +33,7 @@ pub struct Lent {
 }
 
 impl Lent {
-    fn list(&mut self, input: &[u8], room: usize) -> Listing {
+    fn call(&mut self, function: Function, input: &[u8], room: usize) -> Written {
         self.calls += 1;
         let around = AROUND[self.calls % AROUND.len()];
         self.input.clear();
@@ -39,7 +42,7 @@ impl Lent {
         self.out.clear();
         self.out.resize(room + 2 * MARGIN, self.mark());
         let (given, out) = (&self.input[MARGIN..][..input.len()], &mut self.out[MARGIN..][..room]);
-        unsafe { laddertick_list(given.as_ptr(), given.len(), out.as_mut_ptr(), out.len()) }
+        unsafe { function(given.as_ptr(), given.len(), out.as_mut_ptr(), out.len()) }
     }
 
     fn mark(&self) -> u8 {
@@ -58,40 +61,60 @@ impl Lent {
     }
 }
 
-/// Holds the library's answer against the expected one: with room to spare and with none; where frames are listed also with
-/// exactly enough room and one byte less. An error says in words what is wrong.
+/// Holds the library's answers against the expected ones, the listing's and the normalised text's. The normalised text of an
+/// accepted input is listed alike, and normalising it again changes nothing. An error says in words what is wrong.
 pub fn compare(lent: &mut Lent, input: &[u8], expected: &Answer) -> Result<(), String> {
+    listed(lent, input, expected)?;
+    if input.len() > oracle::LIMIT {
+        return refused(lent, laddertick_normalise, input, 14, 0);
+    }
+    let text = oracle::normalised(input);
+    written(lent, laddertick_normalise, input, &text).map_err(|wrong| format!("normalising, {wrong}"))?;
+    if text.len() <= oracle::LIMIT && matches!(expected, Answer::Labels(_)) {
+        listed(lent, &text, expected).map_err(|wrong| format!("the normalised text, {wrong}"))?;
+        written(lent, laddertick_normalise, &text, &text).map_err(|wrong| format!("normalising again, {wrong}"))?;
+    }
+    Ok(())
+}
+
+fn listed(lent: &mut Lent, input: &[u8], expected: &Answer) -> Result<(), String> {
     match expected {
-        Answer::Labels(text) => {
-            let n = text.len();
-            for room in [n + 40, n] {
-                answers(lent, input, room, Listing { number: 0, place: n }, text)?;
-            }
-            if n > 0 {
-                for room in [n - 1, 0] {
-                    answers(lent, input, room, Listing { number: 15, place: n }, "")?;
-                }
-            }
-        }
-        Answer::Refused(number, place) => {
-            // More than any listing of a short input needs.
-            for room in [16 * input.len().min(65_536) + 40, 0] {
-                answers(lent, input, room, Listing { number: *number as u32, place: *place }, "")?;
-            }
-        }
+        Answer::Labels(text) => written(lent, laddertick_list, input, text.as_bytes()),
+        Answer::Refused(number, place) => refused(lent, laddertick_list, input, *number, *place),
         Answer::Panic => unreachable!("01 answers every input"),
+    }
+}
+
+/// A text: with room to spare, with exactly enough, one byte less and none.
+fn written(lent: &mut Lent, function: Function, input: &[u8], text: &[u8]) -> Result<(), String> {
+    let n = text.len();
+    for room in [n + 40, n] {
+        answers(lent, function, input, room, Written { number: 0, place: n }, text)?;
+    }
+    if n > 0 {
+        for room in [n - 1, 0] {
+            answers(lent, function, input, room, Written { number: 15, place: n }, b"")?;
+        }
+    }
+    Ok(())
+}
+
+/// A refusal: with more room than any answer to a short input needs, and with none.
+fn refused(lent: &mut Lent, function: Function, input: &[u8], number: u8, place: usize) -> Result<(), String> {
+    for room in [16 * input.len().min(65_536) + 40, 0] {
+        answers(lent, function, input, room, Written { number: number as u32, place }, b"")?;
     }
     Ok(())
 }
 
 /// The library answers as expected, writes the text, and changes nothing else.
-fn answers(lent: &mut Lent, input: &[u8], room: usize, expected: Listing, text: &str) -> Result<(), String> {
-    let got = lent.list(input, room);
+fn answers(lent: &mut Lent, function: Function, input: &[u8], room: usize, expected: Written, text: &[u8]) -> Result<(), String> {
+    let got = lent.call(function, input, room);
     let n = text.len();
     let wrong = if got != expected {
         format!("{got:?} given, {expected:?} expected")
-    } else if lent.written(n) != text.as_bytes() {
-        format!("other frames written:\n{}", lent.written(n).escape_ascii().to_string().replace("\\n", "\n"))
+    } else if lent.written(n) != text {
+        format!("other bytes written:\n{}", lent.written(n).escape_ascii().to_string().replace("\\n", "\n"))
     } else if !lent.kept_but(n) {
         format!("bytes changed outside the first {n} of the buffer")
     } else if &lent.input[MARGIN..][..input.len()] != input {

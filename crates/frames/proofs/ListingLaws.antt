@@ -26,6 +26,7 @@ use Rattle.text.proofs.Utf8Laws.{length-decode-le}
 use Rattle.text.proofs.WroteLaws.{wrote, sets-append}
 use Rattle.whole.specs.Reach.{Final, accepted, refusal}
 use Rattle.whole.specs.Step.{step, longest}
+use Rattle.whole.specs.Given.{Given, bytes, refused}
 use Rattle.whole.specs.Trace.{Trace, stops, refuses, yields, clears, prints, Outcome, listed, refusal-of, ending, final, labelsIn, lead, after, trace, onAnswer, Goes}
 use Rattle.whole.proofs.TraceLaws.{labels-after, trace-by, goes-by}
 use Rattle.grammar.specs.Epl.{epl}
@@ -35,7 +36,7 @@ use Rattle.walk.specs.declared.state.WalkState.{WalkState}
 use Rattle.walk.specs.declared.state.Step.{Step}
 use Rattle.walk.specs.declared.state.Step.the-variants.{Element, Clear, Print, End, Refused}
 use Rattle.walk.proofs.state.Step.{enum}
-use Rattle.frames.specs.Listing.{FramedLabel, Given, bytes, refused, givenOf, linesOf, labelLines, listingOf, outcomeOf, sizeOf, listedOf, bufferOf, Lists, leadOf, labelText, textFrom}
+use Rattle.frames.specs.Listing.{FramedLabel, givenOf, linesOf, labelLines, listingOf, outcomeOf, sizeOf, listedOf, bufferOf, Lists, leadOf, labelText, textFrom}
 use Rattle.frames.specs.declared.listing.Listed.the-variants as listing
 
 -- ---- the length, as the first pass counts it: of the labels so far, and of what is pending

@@ -13,8 +13,9 @@ use Rattle.text.proofs.WroteLaws.{wrote}
 use Rattle.elements.specs.declared.refusal.Refusal.{Refusal}
 use Rattle.elements.specs.Refusals.{numberOf}
 use Rattle.element_frames.specs.Put.{Put}
+use Rattle.whole.specs.Given.{Given, bytes, refused}
 use Rattle.whole.specs.Trace.{Outcome, listed, refusal-of}
-use Rattle.frames.specs.Listing.{FramedLabel, Given, bytes, refused, listingOf, outcomeOf, listedOf, bufferOf, Lists}
+use Rattle.frames.specs.Listing.{FramedLabel, listingOf, outcomeOf, listedOf, bufferOf, Lists}
 use Rattle.frames.specs.Printing.{refusalLine, textOf, printedOf}
 use Rattle.frames.specs.declared.listing.Listed.{Listed}
 use Rattle.frames.specs.declared.listing.Listed.the-variants.{Bytes, Refused}
@@ -63,6 +64,10 @@ kept (refusal-of m q) n l k p h =
 
     same-place : {a b c d : ℕ} → _≡_ {A = Given} (refused a b) (refused c d) → d ≡ b
     same-place e = cc
+
+-- a refusal leaves the buffer as it came
+pub lists-kept : (o : Outcome (List ℕ) Unit) (n l : List ℕ) (k : Refusal) (p : ℕ) → Lists n l o (Refused k p) → n ≡ l
+lists-kept o n l k p h = kept o n l k p h .same
 
 module _ (s l : List ℕ) where
   pub prints-nothing : length l < 13 → Put l l 0 (printedOf s (length l)) 0

@@ -1,14 +1,12 @@
 -- The listing (01, "Frames"): the lines of the labels that a walk answers, and what `list` does with them.
 use mathlib.Core.Path.{_≡_}
-use mathlib.Core.Bool.{cond}
 use mathlib.Core.List.{List, [], _∷_, _++_}
 use Prim.Native.Nat.{ℕ}
-use lib.Dec.{ltb}
 use lib.ListN.{length}
-use lib.Seq.{sets}
 use Rattle.elements.specs.Refusals.{numberOf}
 use Rattle.element_frames.specs.Frame.{frameOf, countFrame}
 use Rattle.element_frames.specs.Hex.{lineOf}
+use Rattle.whole.specs.Given.{Given, bytes, refused, fitting, stored}
 use Rattle.whole.specs.Labels.{Label}
 use Rattle.whole.specs.Trace.{Outcome, listed, refusal-of, outcome, labelsIn, lead}
 use Rattle.grammar.specs.Epl.{epl}
@@ -39,11 +37,6 @@ listingOf (l ∷ ls) = labelLines l ++ listingOf ls
 abbrev pub outcomeOf : List ℕ → Outcome (List ℕ) Unit
 outcomeOf s = outcome epl (List ℕ) frameOf s (stateOf fresh)
 
--- a length, or a refusal's number and place
-pub data Given : Type 0 where
-  bytes : ℕ → Given
-  refused : ℕ → ℕ → Given
-
 abbrev pub givenOf : Listed → Given
 givenOf (Bytes n) = bytes n
 givenOf (Refused k p) = refused (numberOf k) p
@@ -52,14 +45,14 @@ abbrev pub sizeOf : Outcome (List ℕ) Unit → Given
 sizeOf (listed ls) = bytes (length (listingOf ls))
 sizeOf (refusal-of n p) = refused n p
 
--- "15 output longer than its buffer (place: length needed)"; m is the buffer's length
+-- the walk's refusal, or 15 where the listing is longer than the m bytes of the buffer
 abbrev pub listedOf : Outcome (List ℕ) Unit → ℕ → Given
-listedOf (listed ls) m = cond (ltb m (length (listingOf ls))) (refused 15 (length (listingOf ls))) (bytes (length (listingOf ls)))
+listedOf (listed ls) m = fitting (listingOf ls) m
 listedOf (refusal-of n p) m = refused n p
 
--- the buffer afterwards: only a listing that fits is written, "Output bytes past the written length keep their values"
+-- the buffer afterwards
 abbrev pub bufferOf : Outcome (List ℕ) Unit → List ℕ → List ℕ
-bufferOf (listed ls) l = cond (ltb (length l) (length (listingOf ls))) l (sets l 0 (listingOf ls))
+bufferOf (listed ls) l = stored (listingOf ls) l
 bufferOf (refusal-of n p) l = l
 
 -- what `list` does: l becomes n, o being what the walk lists

@@ -38,7 +38,7 @@ TextLine (block bs h p) rest = ⊥
 TextLine (line t) rest = All notLf t
 TextLine (last t) rest = All notLf t × (0 < length t) × (rest ≡ [])
 
-line-by : (t : List ℕ) → 0 < length t → lineBy t [] ≡ unit (last t) []
+pub line-by : (t : List ℕ) → 0 < length t → lineBy t [] ≡ unit (last t) []
 line-by [] h = absurd (omega arith)
 line-by (b ∷ t) h = refl
 

@@ -29,7 +29,7 @@ use Rattle.grammar.proofs.FrontLaws.{front-drop}
 use Rattle.grammar.proofs.FoundLaws.{reads}
 
 -- the line that stands first, by the place of its LF
-front-index : (s : List ℕ) → front notLf s ≡ take (indexOf 10 s) s
+pub front-index : (s : List ℕ) → front notLf s ≡ take (indexOf 10 s) s
 front-index [] = refl
 front-index (b ∷ s) = test (eqb b 10) (λ e. simp e) (λ e. simp (e, front-index s))
 

@@ -65,7 +65,13 @@ length-kept-le : (t : List ℕ) → length (each bytes (kept t)) ≤ length t + 
 length-kept-le [] = omega arith
 length-kept-le (b ∷ t) = simp length-append (omega arith)
 
+-- one byte more at most, whatever the unit says
+pub normal-le : (u : EplUnit) → length (each bytes (normal u)) ≤ length (bytes u) + 1
+normal-le (block bs h p) = omega (arith, length-append (bytes (block bs h p)) (10 ∷ []))
+normal-le (line t) = omega (arith, length-kept-le (trimAscii t), length-trimmed-le t, length-append t (10 ∷ []))
+normal-le (last t) = omega (arith, length-kept-le (trimAscii t), length-trimmed-le t)
+
 pub normal-grows : (u : EplUnit) (rest : List ℕ) → Stands u rest → Grows (length (bytes u)) (length (each bytes (normal u))) rest
-normal-grows (block bs h p) rest st = by-block (omega (arith, length-append (bytes (block bs h p)) (10 ∷ []))) (simp length-append (omega arith))
+normal-grows (block bs h p) rest st = by-block (normal-le (block bs h p)) (simp length-append (omega arith))
 normal-grows (line t) rest st = no-longer (omega (arith, length-kept-le (trimAscii t), length-trimmed-le t, length-append t (10 ∷ [])))
-normal-grows (last t) rest st = by-last (omega (arith, length-kept-le (trimAscii t), length-trimmed-le t)) (st .2)
+normal-grows (last t) rest st = by-last (normal-le (last t)) (st .2)

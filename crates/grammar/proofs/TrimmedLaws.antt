@@ -18,11 +18,11 @@ use Rattle.grammar.specs.Units.{All, all-nil, all-cons, notLf, Command}
 use Rattle.grammar.proofs.FrontLaws.{front-drop, front-all, drop-passes}
 
 -- the blanks behind a trimmed line
-abbrev behind : List ℕ → List ℕ
+abbrev pub behind : List ℕ → List ℕ
 behind t = reverse (front isAsciiBlank (reverse (dropWhile isAsciiBlank t)))
 
 -- a line is the blanks before it, the trimmed line and the blanks behind
-inside : (t : List ℕ) → front isAsciiBlank t ++ (trimAscii t ++ behind t) ≡ t
+pub inside : (t : List ℕ) → front isAsciiBlank t ++ (trimAscii t ++ behind t) ≡ t
 inside t =
     let s = dropWhile isAsciiBlank t in
     ap (λ (x : List ℕ). front isAsciiBlank t ++ x)

@@ -1,16 +1,21 @@
 -- The claims hold. Assumes nothing.
 use mathlib.Core.Path.{_≡_, refl, ap, subst, _∙_}
+use mathlib.Core.Bool.{Bool, true, false, cond, _||_}
 use mathlib.Core.List.{List, [], _∷_, _++_}
 use Prim.Native.Nat.{ℕ, _≤_}
 use native.Mathlib.Omega.{arith}
-use lib.ListN.{length}
+use lib.Dec.{ltb}
+use lib.ListN.{length, drop}
 use Rattle.elements.specs.declared.label_element.LabelElement.{LabelElement}
 use Rattle.elements.specs.declared.label_position.LabelPosition.{LabelPosition}
-use Rattle.elements.specs.Spans.{shifted}
+use Rattle.elements.specs.declared.refusal.Refusal.{Refusal}
+use Rattle.elements.specs.declared.refusal.Refusal.the-variants.{TextFields, BarcodeFields, Barcode2dFields, LineFields, DiagonalFields, BoxFields, BarcodeType, Barcode2dType, QrData, GraphicFields, GraphicNegative, GraphicTruncated, OutOfRange, InputTooLong, OutputTooShort, StateOutside}
+use Rattle.elements.specs.Refusals.{numberOf}
 use Rattle.element_frames.specs.Frame.{frameOf}
 use Rattle.element_frames.proofs.FrameLaws.{frame-local}
 use Rattle.whole.specs.Labels.{labels}
-use Rattle.whole.specs.Step.{longest}
+use Rattle.whole.specs.Step.{State, Answer, handing, answer, step, longest}
+use Rattle.whole.specs.Step as step-of
 use Rattle.whole.specs.Reach.{Final, accepted, refusal, Reach, answered}
 use Rattle.whole.specs.Normal.{each, Normal}
 use Rattle.whole.specs.Trace.{ending, listed, refusal-of}
@@ -27,6 +32,8 @@ use Rattle.grammar.proofs.ReadingLaws.{ill-formed, well-formed-range}
 use Rattle.walk.proofs.UnitLaws.{inside}
 use Rattle.walk.specs.Steps.{fresh, stateOf}
 use Rattle.frames.specs.Listing.{FramedLabel, outcomeOf}
+use Rattle.frames.proofs.PrintingLaws.{lists-kept}
+use Rattle.format.proofs.NormaliseLaws.{formats-kept}
 use Rattle.frames.proofs.Room.{length-listing-le, never-short}
 use Rattle.laddertick.specs.Claims.{Divides, Normalising, Demand3, Claims}
 use Rattle.laddertick.proofs.Starred.{starred}
@@ -82,12 +89,54 @@ demand-of s w = record {
     refused accepted e none = let d = divides e in absurd (none (d .0) (d .1))
     refused (refusal n p) e none = (n, p, e)
 
+-- ---- demand 1
+handing-refused : {R E P : Type 0} (g st : State R) (n p : ℕ) (a : Answer R E P) → handing g a ≡ step-of.refused n p st → st ≡ g
+unfolding handing
+handing-refused g st n p (step-of.element e q) h = let z : _≡_ {A = ℕ} 0 1 = cc in absurd (omega arith)
+handing-refused g st n p (step-of.cleared q) h = let z : _≡_ {A = ℕ} 0 1 = cc in absurd (omega arith)
+handing-refused g st n p (step-of.printed m o q) h = let z : _≡_ {A = ℕ} 0 1 = cc in absurd (omega arith)
+handing-refused g st n p (step-of.ended q) h = let z : _≡_ {A = ℕ} 0 1 = cc in absurd (omega arith)
+handing-refused g st n p (step-of.refused m q x) h = cc
+
+tests-refused : (a b : Bool) (g st : State LabelPosition) (n p : ℕ) (x : Answer LabelPosition LabelElement Unit)
+    → cond a (step-of.refused 14 0 g) (cond b (step-of.refused 16 (g .place) g) (handing g x)) ≡ step-of.refused n p st → st ≡ g
+tests-refused true b g st n p x h = cc
+tests-refused false true g st n p x h = cc
+tests-refused false false g st n p x h = handing-refused g st n p x h
+
+hands-back : (s : List ℕ) (g st : State LabelPosition) (n p : ℕ) → step epl s g ≡ step-of.refused n p st → st ≡ g
+unfolding step
+hands-back s g st n p h =
+    tests-refused (ltb longest (length s)) (ltb (length s) (g .place) || ltb (g .place) (g .pending)) g st n p (answer epl (drop (g .place) s) (g .place) (g .ref) (g .pending)) h
+
+numbered-of : (k : Refusal) → (1 ≤ numberOf k) × (numberOf k ≤ 16)
+numbered-of TextFields = (omega arith, omega arith)
+numbered-of BarcodeFields = (omega arith, omega arith)
+numbered-of Barcode2dFields = (omega arith, omega arith)
+numbered-of LineFields = (omega arith, omega arith)
+numbered-of DiagonalFields = (omega arith, omega arith)
+numbered-of BoxFields = (omega arith, omega arith)
+numbered-of BarcodeType = (omega arith, omega arith)
+numbered-of Barcode2dType = (omega arith, omega arith)
+numbered-of QrData = (omega arith, omega arith)
+numbered-of GraphicFields = (omega arith, omega arith)
+numbered-of GraphicNegative = (omega arith, omega arith)
+numbered-of GraphicTruncated = (omega arith, omega arith)
+numbered-of OutOfRange = (omega arith, omega arith)
+numbered-of InputTooLong = (omega arith, omega arith)
+numbered-of OutputTooShort = (omega arith, omega arith)
+numbered-of StateOutside = (omega arith, omega arith)
+
 pub claims : Claims
 claims = record {
-  whole-walk = λ s short. demand-of s (walks s short);
-  ill-formed = ill-formed;
-  well-formed = well-formed-range;
+  demand1 = record {
+    step-hands-back = λ s st st′ n p h. hands-back s st st′ n p h;
+    list-keeps = λ n l s k p w. lists-kept (outcomeOf s) n l k p w;
+    normalise-keeps = λ n l s k p w. formats-kept n l s k p w;
+    numbered = numbered-of;
+  };
+  demand2 = record { ill-formed = ill-formed; well-formed = well-formed-range; starred = starred };
+  demand3 = λ s short. demand-of s (walks s short);
   room = length-listing-le;
   never-15 = never-short;
-  starred = starred;
 }

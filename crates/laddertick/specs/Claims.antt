@@ -16,7 +16,7 @@ use Rattle.parameters.specs.declared.reading.Reading.the-variants.{Refused}
 use Rattle.commands.specs.Line.{readLine}
 use Rattle.whole.specs.Division.{Division}
 use Rattle.whole.specs.Labels.{labels, labelsOf, Fails}
-use Rattle.whole.specs.Step.{Answer, longest}
+use Rattle.whole.specs.Step.{State, Answer, refused, step, longest}
 use Rattle.whole.specs.Reach.{Final, accepted, refusal, Reach, answered}
 use Rattle.whole.specs.Trace.{Outcome, listed, refusal-of}
 use Rattle.whole.specs.Normal.{each}
@@ -25,8 +25,11 @@ use Rattle.grammar.specs.Units.{EplUnit}
 use Rattle.grammar.specs.Epl.{origin, epl}
 use Rattle.grammar.specs.Normal.{blocks, normalised}
 use Rattle.walk.specs.Steps.{fresh, stateOf}
-use Rattle.frames.specs.Listing.{FramedLabel, listingOf, outcomeOf}
+use Rattle.frames.specs.Listing.{FramedLabel, listingOf, outcomeOf, Lists}
+use Rattle.frames.specs.declared.listing.Listed.the-variants as listed-as
 use Rattle.frames.specs.Printing.{printedOf, shownOf}
+use Rattle.format.specs.Normalise.{Formats}
+use Rattle.format.specs.declared.normalise.Normalised.the-variants as normalised-as
 use Rattle.laddertick.specs.Starred.{Holds, table}
 
 -- "the string divides end to end into graphic blocks and command lines by 01's grammar with every position and size within signed 32 bits", and has these labels
@@ -69,14 +72,31 @@ pub record Demand3 (s : List ℕ) : Type 0 where
   pub lists-division : (ls : List FramedLabel) → Divides s ls → outcomeOf s ≡ listed ls
   pub lists-refusal : (n p : ℕ) → final ≡ refusal n p → outcomeOf s ≡ refusal-of n p
 
-pub record Claims : Type 0 where
-  -- demand 3, whole
-  pub whole-walk : (s : List ℕ) → length s ≤ longest → Demand3 s
-  -- demand 2: the reader of a line refuses 1 to 9 exactly where the line is not well formed, with 01's number; a well-formed one it refuses only as 13
+-- demand 1, refusals: a refused call leaves the state and every lent buffer as they came, and has a number of 01. (That memory is touched only inside its
+-- ends and that every call returns is what a proof of a Rattle function says of every call; no entry point has a `requires`.)
+pub record Demand1 : Type 0 where
+  -- `step`, by its contract `answerOf r ≡ step epl s (stateOf st)`
+  pub step-hands-back : (s : List ℕ) (st st′ : State LabelPosition) (n p : ℕ) → step epl s st ≡ refused n p st′ → st′ ≡ st
+  -- `list`, by its contract `Lists`
+  pub list-keeps : (n l s : List ℕ) (k : Refusal) (p : ℕ) → Lists n l (outcomeOf s) (listed-as.Refused k p) → n ≡ l
+  -- `normalise`, by its contract `Formats`
+  pub normalise-keeps : (n l s : List ℕ) (k : Refusal) (p : ℕ) → Formats n l s (normalised-as.Refused k p) → n ≡ l
+  pub numbered : (k : Refusal) → (1 ≤ numberOf k) × (numberOf k ≤ 16)
+
+-- demand 2: the command forms. A line's reader is `readLine` (crate `commands`, Line), a block's `gwSpan` (`graphics`, Block), frames are `frameOf`
+-- (`element_frames`, Frame); the code's readers are proved equal to them
+pub record Demand2 : Type 0 where
+  -- the reader of a line refuses 1 to 9 exactly where the line is not well formed, with 01's number; a well-formed one it refuses only as 13
   pub ill-formed : (t : List ℕ) (r : LabelPosition) → wellFormed (trim t) ≡ false → (n : Refusal) × (readLine t r ≡ Refused n) × (numberOf n ≡ faultOf (trim t))
   pub well-formed : (t : List ℕ) (r : LabelPosition) (n : Refusal) → wellFormed (trim t) ≡ true → readLine t r ≡ Refused n → n ≡ OutOfRange
+  -- 01's starred cases
+  pub starred : Holds table
+
+pub record Claims : Type 0 where
+  pub demand1 : Demand1
+  pub demand2 : Demand2
+  -- demand 3, whole
+  pub demand3 : (s : List ℕ) → length s ≤ longest → Demand3 s
   -- the listing program's buffer always has room: no listing has more than 16 bytes for each byte of its input, and 15 is never printed
   pub room : (s : List ℕ) (ls : List FramedLabel) → outcomeOf s ≡ listed ls → length (listingOf ls) ≤ 16 * length s
   pub never-15 : (s : List ℕ) → length s ≤ 65536 → printedOf s 1048576 ≡ shownOf (outcomeOf s)
-  -- 01's starred cases
-  pub starred : Holds table

@@ -1,5 +1,5 @@
--- The starred cases of 01 ("Corners"), those of the normaliser excepted, and its worked example ("Frames"): a table of inputs, each with all that the
--- steps answer from the fresh state on, up to and including the end or the refusal. `starred` (proofs/Starred.antt): every row holds.
+-- The starred cases of 01 ("Corners") and its worked example ("Frames"): a table of inputs, each with all that the steps answer from the fresh state on,
+-- up to and including the end or the refusal, or with its normalised text. `starred` (proofs/Starred.antt): every row holds.
 use mathlib.Core.Path.{_≡_}
 use mathlib.Core.Bool.{Bool, true, false}
 use mathlib.Core.List.{List, [], _∷_}
@@ -17,6 +17,7 @@ use Rattle.elements.specs.declared.line_color.LineColor.the-variants.{Black}
 use Rattle.whole.specs.Step.{State, state, Answer, element, cleared, printed, ended, refused, step}
 use Rattle.whole.specs.Trace.{left}
 use Rattle.grammar.specs.Epl.{origin, epl}
+use Rattle.grammar.specs.Normal.{normalised}
 
 abbrev pub EplState : Type 0
 EplState = State LabelPosition
@@ -45,15 +46,16 @@ answersOf (suc k) s st = onward (λ st′. answersOf k s st′) (step epl s st)
 abbrev pub answers : List ℕ → List EplAnswer
 answers s = answersOf (suc (left s fresh)) s fresh
 
--- an input, and all that is answered to it
-pub record Case : Type 0 where
-  pub input : List ℕ
-  pub says : List EplAnswer
+-- an input with all that is answered to it, or with its normalised text
+pub data Case : Type 0 where
+  says : List ℕ → List EplAnswer → Case
+  becomes : List ℕ → List ℕ → Case
 
--- every row of a table is what the steps answer
+-- every row of a table holds
 abbrev pub Holds : List Case → Type 0
 Holds [] = Unit
-Holds (c ∷ cs) = (answers (c .input) ≡ c .says) × Holds cs
+Holds (says s xs ∷ cs) = (answers s ≡ xs) × Holds cs
+Holds (becomes s t ∷ cs) = (normalised s ≡ t) × Holds cs
 
 -- How the rows are written:
 
@@ -63,7 +65,10 @@ ascii string.[] = []
 ascii (string._∷_ c s) = code c ∷ ascii s
 
 abbrev case : String → List EplAnswer → Case
-case s said = record { input = ascii s; says = said }
+case s said = says (ascii s) said
+
+abbrev normal : String → String → Case
+normal s t = becomes (ascii s) (ascii t)
 
 -- the end, at n, with k elements pending at the reference 0,0
 abbrev closes : ℕ → ℕ → List EplAnswer
@@ -135,6 +140,11 @@ table =
     -- "`GW0,0,1,1,` at the end of input: 12. With one LF after it: payload 0a."
     ∷ case "GW0,0,1,1," (refused 12 0 fresh ∷ [])
     ∷ case "GW0,0,1,1,\n" (alone 11 (graphic 1 10 1))
+    -- "` N ` CR LF becomes `N` LF. A malformed `GW` line is normalised as text, so `GW0,0,1,1,` becomes a line that then reads as a block."
+    ∷ normal " N \r\n" "N\n"
+    ∷ normal "GW0,0,1,1," "GW0,0,1,1,\n"
+    -- "hexadecimal 0b before `GW` stays; one left empty is dropped"
+    ∷ normal "\u{b}GW,,,, \n \t\n" "\u{b}GW,,,,\n"
     -- the worked example: "`R10,20`, `LO5,6,30,4`, `P1`, each with LF"
     ∷ case "R10,20\nLO5,6,30,4\nP1\n" (element (box (point 15 26) 30 4 4) (state 18 (point 10 20) 1) ∷ printed 1 tt (state 21 (point 10 20) 0) ∷ ended (state 21 (point 10 20) 0) ∷ [])
     ∷ []

@@ -1,18 +1,11 @@
 -- A flat answer says what the library answered: no refusal has the number 0. Assumes nothing.
-use mathlib.Core.Path.{_≡_, refl, sym, ap, _∙_}
-use mathlib.Core.Bool.{cond}
-use mathlib.Core.List.{List}
+use mathlib.Core.Path.{_≡_, refl, ap, _∙_}
 use Prim.Native.Nat.{ℕ}
-use lib.Dec.{eqb}
-use lib.ListN.{length}
 use Rattle.elements.specs.declared.refusal.Refusal.{Refusal}
 use Rattle.elements.specs.declared.refusal.Refusal.the-variants.{TextFields, BarcodeFields, Barcode2dFields, LineFields, DiagonalFields, BoxFields, BarcodeType, Barcode2dType, QrData, GraphicFields, GraphicNegative, GraphicTruncated, OutOfRange, InputTooLong, OutputTooShort, StateOutside}
 use Rattle.elements.specs.Refusals.{numberOf}
-use Rattle.whole.specs.Trace.{Outcome}
-use Rattle.frames.specs.Listing.{Given, bytes, refused, givenOf, Lists}
-use Rattle.frames.specs.declared.listing.Listed.{Listed}
-use Rattle.frames.specs.declared.listing.Listed.the-variants.{Bytes, Refused}
-use Rattle.laddertick_c.specs.Flat.{givenFlat, ListsFlat}
+use Rattle.whole.specs.Given.{Given, bytes, refused}
+use Rattle.laddertick_c.specs.Flat.{givenFlat}
 
 flat-refusal : (k : Refusal) (p : ℕ) → givenFlat (record { number = numberOf k; place = p }) ≡ refused (numberOf k) p
 flat-refusal TextFields p = refl
@@ -32,10 +25,9 @@ flat-refusal InputTooLong p = refl
 flat-refusal OutputTooShort p = refl
 flat-refusal StateOutside p = refl
 
-module _ (n l : List ℕ) (o : Outcome (List ℕ) Unit) (a : Listed) (w : Lists n l o a) where
-  pub flat-listed : (k : ℕ) → a ≡ Bytes k → ListsFlat n l o (record { number = 0; place = k })
-  flat-listed k e = record { answer = ap givenOf (sym e) ∙ w .answer; buffer = w .buffer }
+-- a length, or a refusal by its number m, as given flat
+pub flat-length : (k : ℕ) (g : Given) → bytes k ≡ g → givenFlat (record { number = 0; place = k }) ≡ g
+flat-length k g e = e
 
-  pub flat-refused : (k : Refusal) (p m : ℕ) → a ≡ Refused k p → m ≡ numberOf k → ListsFlat n l o (record { number = m; place = p })
-  flat-refused k p m e q =
-      record { answer = ap (λ (x : ℕ). givenFlat (record { number = x; place = p })) q ∙ flat-refusal k p ∙ ap givenOf (sym e) ∙ w .answer; buffer = w .buffer }
+pub flat-number : (k : Refusal) (p m : ℕ) (g : Given) → refused (numberOf k) p ≡ g → m ≡ numberOf k → givenFlat (record { number = m; place = p }) ≡ g
+flat-number k p m g e q = ap (λ (x : ℕ). givenFlat (record { number = x; place = p })) q ∙ flat-refusal k p ∙ e

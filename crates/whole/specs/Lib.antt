@@ -14,5 +14,7 @@ pub mod Reach
 pub mod Trace
 -- 01, "format.rs": normalised text
 pub mod Normal
+-- what a call that writes gives back
+pub mod Given
 -- what a language of units has to show, and what follows
 pub mod Claims

@@ -1,7 +1,8 @@
 -- `laddertick_c::laddertick_list` meets its contract. Assumes nothing.
-use Rattle.frames.specs.Listing.{outcomeOf}
+use mathlib.Core.Path.{sym, ap, _∙_}
+use Rattle.frames.specs.Listing.{givenOf, outcomeOf}
 use Rattle.frames.proofs.PrintingLaws.{lists-long}
-use Rattle.laddertick_c.proofs.FlatLaws.{flat-listed, flat-refused}
+use Rattle.laddertick_c.proofs.FlatLaws.{flat-length, flat-number}
 use borrow.Author.Needs.{needs}
 use Rattle.laddertick_c.proofs.laddertick_list.Statement.{statement}
 use Rattle.laddertick_c.proofs.laddertick_list.Tie as tie
@@ -30,8 +31,8 @@ same-length c =
 returns : tie.Need-returns
 returns c =
     let l = c .before .before .before .before .before in
-    let a = l .before .before .before .before .args in
-    flat-listed _ (a .out .now) (outcomeOf (a .input .now)) (l .list .result) (l .list .ensures) (c .before .n .given .0 .0) (c .before .n .given .1)
+    let w = l .list .ensures in
+    record { answer = flat-length (c .before .n .given .0 .0) _ (ap givenOf (sym (c .before .n .given .1)) ∙ w .answer); buffer = w .buffer }
 
 same-length-2 : tie.Need-same-length-2
 same-length-2 c =
@@ -42,9 +43,8 @@ same-length-2 c =
 returns-2 : tie.Need-returns-2
 returns-2 c =
     let k = c .before .before .k in
-    let l = c .before .before .before .before .before .before in
-    let a = l .before .before .before .before .args in
-    flat-refused _ (a .out .now) (outcomeOf (a .input .now)) (l .list .result) (l .list .ensures) (k .given .0 .0) (k .given .0 .1 .0) (c .number .result) (k .given .1) (c .number .ensures)
+    let w = c .before .before .before .before .before .before .list .ensures in
+    record { answer = flat-number (k .given .0 .0) (k .given .0 .1 .0) (c .number .result) _ (ap givenOf (sym (k .given .1)) ∙ w .answer) (c .number .ensures); buffer = w .buffer }
 
 pub laddertick-list-spec : {M : Type 1} → statement M
 laddertick-list-spec =

@@ -1,0 +1,139 @@
+-- The normalised text from a place on, as the loops over the chunks want it, and the answer of `normalise`. Assumes nothing.
+use mathlib.Core.Path.{_≡_, refl, sym, ap, subst, _∙_}
+use mathlib.Core.List.{List, [], _∷_, _++_}
+use Prim.Native.Nat.{ℕ, zero, suc, _+_, _-_, _*_, _<_, _≤_}
+use native.Mathlib.Omega.{arith}
+use lib.ListN.{length, set, length-append, length-drop, take, drop, drop-of-length-le}
+use lib.Dec.{ltb}
+use lib.Seq.{length-take-le, drop-drop, sets, length-sets}
+use borrow.Author.Tests.{lt-ltb, le-ltb}
+use Rattle.text.specs.Wrote.{Wrote}
+use Rattle.text.proofs.BoolLaws.{test}
+use Rattle.text.proofs.DropSteps.{rest}
+use Rattle.text.proofs.WroteLaws.{wrote, wrote-left}
+use Rattle.elements.specs.declared.refusal.Refusal.{Refusal}
+use Rattle.elements.specs.declared.refusal.Refusal.the-variants.{InputTooLong, OutputTooShort}
+use Rattle.elements.specs.Refusals.{numberOf}
+use Rattle.whole.specs.Given.{bytes, refused}
+use Rattle.whole.specs.Language.{First, none, bad, unit}
+use Rattle.whole.specs.Normal.{each}
+use Rattle.whole.specs.Step.{longest}
+use Rattle.grammar.specs.Units.{EplUnit}
+use Rattle.grammar.specs.Units as units
+use Rattle.grammar.specs.Normal.{normal, chunk, written, normalised}
+use Rattle.grammar.proofs.ChunkLaws.{chunk-sound, normalised-is}
+use Rattle.grammar.proofs.NormalLaws.{normalised-nil, normal-le}
+use Rattle.format.specs.declared.normalise.Chunk.{Chunk}
+use Rattle.format.specs.declared.normalise.Normalised.{Normalised}
+use Rattle.format.specs.declared.normalise.Normalised.the-variants.{Bytes, Refused}
+use Rattle.format.specs.Put.{Put}
+use Rattle.format.specs.Normalise.{ended, Takes, Formats}
+use Rattle.format.proofs.TakesLaws.{ended-some, ended-none}
+
+-- nothing is left at the end
+pub normalised-end : (s : List ℕ) (at : ℕ) → length s ≤ at → normalised (drop at s) ≡ []
+normalised-end s at h = ap normalised (drop-of-length-le s {i = at} h) ∙ normalised-nil
+
+-- the part that stays of a chunk at `at`, as `&s[from..end]` gives it
+abbrev pub stays : List ℕ → ℕ → Chunk → List ℕ
+stays s at c = take (at + c .start + c .len - (at + c .start)) (drop (at + c .start) s)
+
+-- at a chunk c, which stands first at `at`
+module _ (s : List ℕ) (at : ℕ) (c : Chunk) (k : Takes (take (length s - at) (drop at s)) (chunk (take (length s - at) (drop at s))) c) where
+  here : Takes (drop at s) (chunk (drop at s)) c
+  here = subst (λ (x : List ℕ). Takes x (chunk x) c) (rest s at) k
+
+  stays-is : stays s at c ≡ take (c .len) (drop (at + c .start) s)
+  stays-is = let e : at + c .start + c .len - (at + c .start) ≡ c .len = omega arith in rw e
+
+  passes : at + c .size ≤ length s
+  passes = omega (arith, here .some, here .inside, length-drop at s)
+
+  stays-length : length (stays s at c) ≡ c .len
+  stays-length = ap length stays-is ∙ length-take-le (c .len) (drop (at + c .start) s) (rw length-drop (omega (arith, here .part, passes)))
+
+  pub turn : normalised (drop at s) ≡ ended (stays s at c) ++ normalised (drop (at + c .size) s)
+  turn =
+      normalised-is (drop at s) ∙ here .is normalised
+      ∙ (λ i. ended (take (c .len) (drop-drop (c .start) at s i)) ++ normalised (drop-drop (c .size) at s i))
+      ∙ ap (λ (x : List ℕ). ended x ++ normalised (drop (at + c .size) s)) (sym stays-is)
+
+  turn-length : length (normalised (drop at s)) ≡ length (ended (stays s at c)) + length (normalised (drop (at + c .size) s))
+  turn-length = ap length turn ∙ length-append (ended (stays s at c)) _
+
+  pub counts-some : 0 < c .len → length (normalised (drop at s)) ≡ (c .len + 1) + length (normalised (drop (at + c .size) s))
+  counts-some h =
+      turn-length
+      ∙ omega (arith, stays-length, ap length (ended-some (stays s at c) (omega (arith, stays-length))), length-append (stays s at c) (10 ∷ []))
+
+  pub counts-none : c .len ≤ 0 → length (normalised (drop at s)) ≡ length (normalised (drop (at + c .size) s))
+  counts-none h = turn-length ∙ omega (arith, ap length (ended-none (stays s at c) (omega (arith, stays-length))))
+
+-- ---- a part and the LF behind it
+pub put-none : (part : List ℕ) → length part ≡ 0 → (l : List ℕ) (at : ℕ) → Put l l at (ended part) at
+put-none part h l at = let e = ended-none part h in record { wrote = wrote (sym (ap (sets l at) e)); next = omega (arith, ap length e) }
+
+module _ (part : List ℕ) (h : length part ≡ 0 → ⊥) where
+  whole : ended part ≡ part ++ 10 ∷ []
+  whole = ended-some part (omega (arith, h))
+
+  pub ended-length : length (ended part) ≡ length part + 1
+  ended-length = ap length whole ∙ length-append part (10 ∷ [])
+
+  pub put-some : (m l : List ℕ) (at : ℕ) → Wrote m l at part → Put (set m (at + length part) 10) l at (ended part) (at + length part + 1)
+  put-some m l at w = record { wrote = wrote (wrote-left part (10 ∷ []) w ∙ ap (sets l at) (sym whole)); next = omega (arith, ended-length) }
+
+-- ---- the answer
+module _ (s l : List ℕ) where
+  pub answer-long : longest < length s → Formats l l s (Refused InputTooLong 0)
+  answer-long h = let e = lt-ltb longest (length s) h in record { answer = simp e; buffer = simp e }
+
+  module _ (n : ℕ) (h : length s ≤ longest) (is : n ≡ length (normalised s)) where
+    pub answer-short : length l < n → Formats l l s (Refused OutputTooShort n)
+    answer-short k =
+        let e = le-ltb longest (length s) h in
+        let f = lt-ltb (length l) (length (normalised s)) (omega arith) in
+        record { answer = simp (e, f, is); buffer = simp (e, f) }
+
+    pub answer-written : (b : List ℕ) (r : ℕ) → n ≤ length l → Put b l 0 (normalised s) r → Formats b l s (Bytes r)
+    answer-written b r k p =
+        let e = le-ltb longest (length s) h in
+        let f = le-ltb (length l) (length (normalised s)) (omega arith) in
+        let m : r ≡ length (normalised s) = omega (arith, p .next) in
+        record { answer = simp (e, f, m); buffer = simp (e, f) (p .wrote .is) }
+
+-- the buffer keeps its length
+pub formats-long : (n l s : List ℕ) (r : Normalised) → Formats n l s r → length n ≡ length l
+formats-long n l s r h =
+    test (ltb longest (length s))
+    (λ e. let b : n ≡ l = h .buffer ∙ (simp e) in ap length b)
+    (λ e.
+    test (ltb (length l) (length (normalised s)))
+    (λ f. let b : n ≡ l = h .buffer ∙ (simp (e, f)) in ap length b)
+    (λ f. let b : n ≡ sets l 0 (normalised s) = h .buffer ∙ (simp (e, f)) in ap length b ∙ length-sets l 0 (normalised s)))
+
+-- a refusal leaves the buffer as it came
+pub formats-kept : (n l s : List ℕ) (k : Refusal) (p : ℕ) → Formats n l s (Refused k p) → n ≡ l
+formats-kept n l s k p h =
+    test (ltb longest (length s))
+    (λ e. h .buffer ∙ (simp e))
+    (λ e.
+    test (ltb (length l) (length (normalised s)))
+    (λ f. h .buffer ∙ (simp (e, f)))
+    (λ f. let a : refused (numberOf k) p ≡ bytes (length (normalised s)) = h .answer ∙ (simp (e, f)) in let z : _≡_ {A = ℕ} 0 1 = cc in absurd (omega arith)))
+
+-- no text is more than twice as long as its input: a chunk of so many bytes leaves one more at most
+length-by : (k : ℕ) (s : List ℕ) → length s < k → length (normalised s) ≤ 2 * length s
+length-by zero s h = absurd (omega arith)
+length-by (suc k) s h = subst (λ (t : List ℕ). length t ≤ 2 * length s) (sym (normalised-is s)) (by (λ t. length-by k t) (chunk s) refl)
+  where
+    by : ((t : List ℕ) → length t < k → length (normalised t) ≤ 2 * length t) → (o : First EplUnit) → chunk s ≡ o → length (written o normalised) ≤ 2 * length s
+    by again none e = omega arith
+    by again (bad n) e = omega arith
+    by again (unit u rest) e =
+        let c = chunk-sound s u rest e in
+        let l = ap length (c .0) ∙ length-append (units.bytes u) rest in
+        omega (arith, l, c .1, again rest (omega arith), normal-le u, length-append (each units.bytes (normal u)) (normalised rest))
+
+pub length-normalised-le : (s : List ℕ) → length (normalised s) ≤ 2 * length s
+length-normalised-le s = length-by (suc (length s)) s (omega arith)

@@ -1,0 +1,134 @@
+// 01's "format.rs": blocks are copied whole, lines lose the ASCII blanks at their ends, and each that is left has one LF behind it. The text is measured
+// before anything is written.
+ghost use mathlib.Core.Path.{_≡_};
+ghost use Prim.Native.Nat.{_+_, _<_, _≤_};
+ghost use lib.ListN.{length};
+ghost use Rattle.whole.specs.Step.{longest};
+ghost use Rattle.grammar.specs.Found.{textLine};
+ghost use Rattle.grammar.specs.Normal.{chunk, normalised};
+ghost use Rattle.format.specs.Put.{Put};
+ghost use Rattle.format.specs.Normalise.{ended, Takes, Formats};
+use elements::refusal::Refusal;
+use graphics::gw_span::Graphic;
+use graphics::gw_span::gw_span;
+use text::blank::trim_ascii_end;
+use text::blank::trim_ascii_start;
+use text::put::put_bytes;
+use text::scan::find;
+
+// "inputs up to 16,777,216 bytes".
+pub const INPUT_MAX: usize = 16777216;
+
+// The length of a normalised text; or why there is none, and its place.
+pub enum Normalised {
+    Bytes(usize),
+    Refused(Refusal, usize),
+}
+
+// What stands first: its bytes, and the part of them that stays. Nothing is written for a part of no bytes.
+pub struct Chunk {
+    pub size: usize,
+    pub start: usize,
+    pub len: usize,
+}
+
+// A line, whatever it says: what is between the ASCII blanks at its ends.
+fn line_chunk(rest: &[u8]) -> Chunk
+    requires { ⌜ 0 < length (now rest) ⌝ }
+    ensures { λ r. ⌜ Takes (now (rest .entry)) (textLine (now (rest .entry))) r ⌝ }
+{
+    let n = find(rest, 10);
+    let started = trim_ascii_start(&rest[..n]);
+    let start = n - started.len();
+    let len = trim_ascii_end(started).len();
+    if n < rest.len() {
+        return Chunk {
+            size: n + 1,
+            start,
+            len,
+        };
+    }
+    Chunk {
+        size: n,
+        start,
+        len,
+    }
+}
+
+// What stands first in rest, which goes to the end of input: a block, else a line. A malformed `GW` line is a line.
+fn chunk_at(rest: &[u8]) -> Chunk
+    requires { ⌜ 0 < length (now rest) ⌝ }
+    ensures { λ r. ⌜ Takes (now (rest .entry)) (chunk (now (rest .entry))) r ⌝ }
+{
+    match gw_span(rest) {
+        Graphic::Nothing => line_chunk(rest),
+        Graphic::Refused(n) => line_chunk(rest),
+        Graphic::Span(g) => Chunk {
+            size: g.data_end,
+            start: 0,
+            len: g.data_end,
+        },
+    }
+}
+
+// The length of the normalised text: one pass, nothing written.
+fn measure(input: &[u8]) -> usize
+    requires { ⌜ length (now input) ≤ longest ⌝ }
+    ensures { λ r. ⌜ r ≡ length (normalised (now (input .entry))) ⌝ }
+{
+    let mut at = 0;
+    let mut total = 0;
+    while at < input.len() {
+        let c = chunk_at(&input[at..]);
+        if 0 < c.len {
+            total += c.len + 1;
+        }
+        at += c.size;
+    }
+    total
+}
+
+// A part and the LF behind it; nothing for a part of no bytes.
+fn put_ended(part: &[u8], out: &mut [u8], at: usize) -> usize
+    requires { ⌜ at + length (ended (now part)) ≤ length (now out) ⌝ }
+    ensures { λ r. ⌜ Put (now (out .exit)) (now (out .entry)) at (ended (now (part .entry))) r ⌝ }
+{
+    if part.len() == 0 {
+        return at;
+    }
+    put_bytes(part, out, at);
+    let end = at + part.len();
+    out[end] = 10;
+    end + 1
+}
+
+// The normalised text, from the start of out.
+fn put_chunks(input: &[u8], out: &mut [u8]) -> usize
+    requires { ⌜ length (normalised (now input)) ≤ length (now out) ⌝ }
+    ensures { λ r. ⌜ Put (now (out .exit)) (now (out .entry)) 0 (normalised (now (input .entry))) r ⌝ }
+{
+    let mut at = 0;
+    let mut to = 0;
+    while at < input.len() {
+        let c = chunk_at(&input[at..]);
+        let from = at + c.start;
+        let end = from + c.len;
+        to = put_ended(&input[from..end], out, to);
+        at += c.size;
+    }
+    to
+}
+
+// The normalised text from the start of out, or a refusal: 14, or 15 with the length needed.
+pub fn normalise(input: &[u8], out: &mut [u8]) -> Normalised
+    ensures { λ r. ⌜ Formats (now (out .exit)) (now (out .entry)) (now (input .entry)) r ⌝ }
+{
+    if INPUT_MAX < input.len() {
+        return Normalised::Refused(Refusal::InputTooLong, 0);
+    }
+    let n = measure(input);
+    if out.len() < n {
+        return Normalised::Refused(Refusal::OutputTooShort, n);
+    }
+    Normalised::Bytes(put_chunks(input, out))
+}

@@ -1,0 +1,2 @@
+-- what is printed, by what `normalise` answered
+pub mod PrintedLaws
