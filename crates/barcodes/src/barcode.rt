@@ -1,5 +1,8 @@
 // `B`: bar codes. Fields: x, y, rotation, type, narrow bar, wide bar, bar height, line.
 ghost use mathlib.Core.Path.{_≡_};
+ghost use Prim.Native.Nat.{_≤_};
+ghost use lib.ListN.{length, take, drop};
+ghost use Rattle.text.specs.Blank.{trim};
 ghost use Rattle.barcodes.specs.Barcode.{oneLetter, code128Letter, twoLetters, threeLetters, symbologyOf, isListed, barsAt, barcodeFields, code128, interleaved, code39, ean13, ean8, upcA, upcE, barcodeElement, barcodeAt, barcodeReading};
 use crate::ratio::bar_ratio;
 use elements::barcode_2of5::Barcode2of5;
@@ -22,18 +25,18 @@ use elements::field_orientation::FieldOrientation;
 use elements::label_element::LabelElement;
 use elements::label_position::LabelPosition;
 use elements::refusal::Refusal;
-use parameters::params::after_two;
+use parameters::params::has_fields;
 use parameters::params::is_exactly;
-use parameters::params::number_at;
-use parameters::params::point_at;
-use parameters::params::size_at;
-use parameters::params::type_at;
+use parameters::params::number_from;
+use parameters::params::point_from;
+use parameters::params::rest_from;
+use parameters::params::size_from;
 use parameters::position::Placed;
 use parameters::position::place;
 use parameters::reading::Reading;
 use parameters::rotation::epl_rotation;
-use text::fields::after_field;
-use text::fields::field_count;
+use text::blank::trim;
+use text::scan::find;
 
 // What the fourth field says.
 pub enum Symbology {
@@ -125,6 +128,14 @@ pub fn symbology_of(t: &[u8]) -> Symbology
     Symbology::Unlisted
 }
 
+// The type in the first n bytes, their blanks off.
+fn symbology_upto(t: &[u8], n: usize) -> Symbology
+    requires { ⌜ n ≤ length (now t) ⌝ }
+    ensures { λ r. ⌜ r ≡ symbologyOf (trim (take n (now (t .entry)))) ⌝ }
+{
+    symbology_of(trim(&t[..n]))
+}
+
 pub fn is_listed(s: Symbology) -> bool
     ensures { λ r. ⌜ r ≡ isListed s ⌝ }
 {
@@ -141,20 +152,18 @@ pub struct Bars {
     pub line: bool,
 }
 
-// The fifth field on: bars and line.
-pub fn bars_at(s: &[u8]) -> Bars
-    ensures { λ r. ⌜ r ≡ barsAt (now (s .entry)) ⌝ }
+// The fifth field on, from its place: bars and line.
+fn bars_from(s: &[u8], at: usize) -> Bars
+    ensures { λ r. ⌜ r ≡ barsAt (drop at (now (s .entry))) ⌝ }
 {
-    let narrow = size_at(s, 1);
-    let t = after_field(s);
-    let wide = number_at(t, 2);
-    let u = after_field(t);
-    let height = size_at(u, 10);
-    let line = is_exactly(after_field(u), b'B');
+    let narrow = size_from(s, at, 1);
+    let wide = number_from(s, narrow.next, 2);
+    let height = size_from(s, wide.next, 10);
+    let line = is_exactly(rest_from(s, height.next), b'B');
     Bars {
-        narrow,
-        wide,
-        height,
+        narrow: narrow.value,
+        wide: wide.value,
+        height: height.value,
         line,
     }
 }
@@ -169,15 +178,16 @@ pub struct BarcodeFields {
 pub fn barcode_fields(s: &[u8]) -> BarcodeFields
     ensures { λ r. ⌜ r ≡ barcodeFields (now (s .entry)) ⌝ }
 {
-    let at = point_at(s);
-    let t = after_two(s);
-    let rotation = number_at(t, 0);
-    let u = after_field(t);
-    let symbology = symbology_of(type_at(u));
-    let bars = bars_at(after_field(u));
+    let p = point_from(s, 0);
+    let at = p.point;
+    let rotation = number_from(s, p.next, 0);
+    let t = rest_from(s, rotation.next);
+    let n = find(t, b',');
+    let symbology = symbology_upto(t, n);
+    let bars = bars_from(t, n + 1);
     BarcodeFields {
         at,
-        rotation,
+        rotation: rotation.value,
         symbology,
         bars,
     }
@@ -381,7 +391,7 @@ pub fn barcode_at(f: BarcodeFields, span: DataSpan, reference: LabelPosition) ->
 pub fn parse_epl_barcode(params: &[u8], span: DataSpan, reference: LabelPosition) -> Reading
     ensures { λ r. ⌜ r ≡ barcodeReading (now (params .entry)) span reference ⌝ }
 {
-    if field_count(params) < 8 {
+    if !has_fields(params, 8) {
         return Reading::Refused(Refusal::BarcodeFields);
     }
     barcode_at(barcode_fields(params), span, reference)

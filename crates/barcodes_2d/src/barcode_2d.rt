@@ -1,5 +1,7 @@
 // `b`: 2D bar codes. Fields: x, y, type, parameters.
 ghost use mathlib.Core.Path.{_≡_};
+ghost use Rattle.parameters.specs.Params.{typeAt};
+ghost use Rattle.text.specs.Fields.{after};
 ghost use Rattle.barcodes_2d.specs.Barcode2d.{symbologyOf, aztecSize, aztecOf, datamatrixOf, modeOf, pdf417ModuleWidth, pdf417RowHeight, pdf417Truncate, pdf417Of, levelOf, qrOf, aztecReading, datamatrixReading, maxicodeReading, pdf417Reading, qrReading, barcode2dAt, barcode2dReading};
 use crate::maxicode::auto_maxicode_mode;
 use crate::options::Wanted;
@@ -22,15 +24,15 @@ use elements::label_position::LabelPosition;
 use elements::maxicode::Maxicode;
 use elements::maxicode::MaxicodeWithData;
 use elements::refusal::Refusal;
-use parameters::params::after_two;
-use parameters::params::point_at;
-use parameters::params::type_at;
+use parameters::params::has_fields;
+use parameters::params::point_from;
+use parameters::params::rest_from;
 use parameters::position::Placed;
 use parameters::position::place;
 use parameters::reading::Reading;
 use parameters::rotation::epl_rotation;
-use text::fields::after_field;
-use text::fields::field_count;
+use text::blank::trim;
+use text::scan::find;
 use text::utf8::decoded_len;
 
 pub enum Symbology2d {
@@ -300,6 +302,15 @@ pub fn barcode_2d_at(t: Symbology2d, s: &[u8], data: &[u8], at: Placed, span: Da
     }
 }
 
+// The third field on: type and parameters.
+fn typed_2d(s: &[u8], data: &[u8], at: Placed, span: DataSpan) -> Reading
+    ensures { λ r. ⌜ r ≡ barcode2dAt (symbologyOf (typeAt (now (s .entry)))) (after 44 (now (s .entry))) (now («data» .entry)) at span ⌝ }
+{
+    let n = find(s, b',');
+    let t = symbology_of(trim(&s[..n]));
+    barcode_2d_at(t, rest_from(s, n + 1), data, at, span)
+}
+
 // A line's parameters and data, at a reference.
 pub fn parse_epl_2d_barcode(
     params: &[u8],
@@ -309,12 +320,11 @@ pub fn parse_epl_2d_barcode(
 ) -> Reading
     ensures { λ r. ⌜ r ≡ barcode2dReading (now (params .entry)) (now («data» .entry)) span reference ⌝ }
 {
-    if field_count(params) < 3 {
+    if !has_fields(params, 3) {
         return Reading::Refused(Refusal::Barcode2dFields);
     }
-    let p = point_at(params);
-    let at = place(p.x, p.y, reference);
-    let s = after_two(params);
-    let t = symbology_of(type_at(s));
-    barcode_2d_at(t, after_field(s), data, at, span)
+    let p = point_from(params, 0);
+    let point = p.point;
+    let at = place(point.x, point.y, reference);
+    typed_2d(rest_from(params, p.next), data, at, span)
 }

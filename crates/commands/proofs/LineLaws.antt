@@ -1,24 +1,24 @@
--- Where the data of a line stands.
+-- Where a line's command stands in it, and its data.
 -- Assumes nothing.
-use mathlib.Core.Path.{_≡_, refl, ap}
-use mathlib.Core.Bool.{Bool, true, false}
+use mathlib.Core.Path.{_≡_, ap, _∙_}
 use mathlib.Core.List.{List}
-use Prim.Native.Nat.{ℕ, _-_, _<_}
+use Prim.Native.Nat.{ℕ, suc, _+_, _-_, _<_, _≤_}
 use native.Mathlib.Omega.{arith}
-use lib.Dec.{leb}
-use lib.ListN.{length}
-use borrow.Author.Tests.{leb-true, leb-false}
+use lib.ListN.{length, length-take, length-drop}
+use Rattle.text.specs.Blank.{trimStart, trim}
 use Rattle.text.specs.Fields.{indexOf, after, quoted}
-use Rattle.text.proofs.FieldsLaws.{after-none, before-last-le}
+use Rattle.text.proofs.FieldsLaws.{before-last-le}
+use Rattle.text.proofs.TrimLaws.{trim-start-is, trim-end-is}
+use Rattle.commands.specs.Line.{leadOf}
 
--- a line with data has a first quote
-pub quoted-some : (t : List ℕ) → (length (quoted t) ≡ 0 → ⊥) → indexOf 34 t < length t
-quoted-some t h = by (leb (length t) (indexOf 34 t)) refl
-  where
-    by : (x : Bool) → leb (length t) (indexOf 34 t) ≡ x → indexOf 34 t < length t
-    by true e =
-        let z = after-none 34 t (leb-true (length t) (indexOf 34 t) e) in
-        let l = before-last-le 34 (after 34 t) in
-        let n = ap length z in
-        absurd (h (omega arith))
-    by false e = leb-false (length t) (indexOf 34 t) e
+-- the blanks before a line, and what is left of it
+pub lead-le : (t : List ℕ) → leadOf t + length (trim t) ≤ length t
+lead-le t =
+    let a = ap length (trim-start-is t) ∙ length-drop (length t - length (trimStart t)) t in
+    let b = ap length (trim-end-is (trimStart t)) ∙ length-take (length (trim t)) (trimStart t) in
+    omega arith
+
+-- a line with no byte behind its first quote has no data
+pub quoted-none : (t : List ℕ) → length t - indexOf 34 t < 2 → length (quoted t) ≡ 0
+unfolding after
+quoted-none t h = omega (arith, before-last-le 34 (after 34 t), length-drop (suc (indexOf 34 t)) t)

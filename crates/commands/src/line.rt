@@ -2,8 +2,8 @@
 ghost use mathlib.Core.Path.{_≡_};
 ghost use Prim.Native.Nat.{_+_, _<_};
 ghost use lib.ListN.{length};
-ghost use Rattle.text.specs.Fields.{quoted};
-ghost use Rattle.commands.specs.Line.{paramsOf, withData, quotedReading, commandReading, readLine};
+ghost use Rattle.parameters.specs.Reading.{laterReading};
+ghost use Rattle.commands.specs.Line.{withData, quotedReading, commandReading, readLine};
 use barcodes::barcode::parse_epl_barcode;
 use barcodes_2d::barcode_2d::parse_epl_2d_barcode;
 use draws::draw::parse_epl_box;
@@ -20,26 +20,10 @@ use spelling::command::command_of;
 use spelling::reference::parse_epl_reference;
 use text::blank::trim_end;
 use text::blank::trim_start;
-use text::fields::after;
-use text::fields::before;
 use text::fields::before_last;
 use text::fields::without_trailing_commas;
 use text::scan::find;
 use texts::epl_text::parse_epl_text;
-
-// The parameters of a line with data: behind the letter, before the first quote, trailing commas dropped.
-pub fn params(t: &[u8]) -> &[u8]
-    ensures { λ r. ⌜ now r ≡ paramsOf (now (t .entry)) ⌝ }
-{
-    without_trailing_commas(tail(before(t, b'"')))
-}
-
-// The data between the first and the last quote: empty where nothing is to be read.
-pub fn quoted_data(t: &[u8]) -> &[u8]
-    ensures { λ r. ⌜ now r ≡ quoted (now (t .entry)) ⌝ }
-{
-    before_last(after(t, b'"'), b'"')
-}
 
 // A command with its parameters, its data and the data's place.
 fn with_data(
@@ -63,15 +47,22 @@ fn read_quoted(c: DataCommand, t: &[u8], lead: usize, reference: LabelPosition) 
     requires { ⌜ lead + length (now t) < 18446744073709551616 ⌝ }
     ensures { λ r. ⌜ r ≡ quotedReading c lead (now (t .entry)) reference ⌝ }
 {
-    let data = quoted_data(t);
+    // The first quote: what stands before it are the parameters, and the data follows it.
+    let q = find(t, b'"');
+    if t.len() - q < 2 {
+        return Reading::Nothing;
+    }
+    let m = q + 1;
+    let data = before_last(&t[m..], b'"');
     if data.len() == 0 {
         return Reading::Nothing;
     }
     let span = DataSpan {
-        start: lead + find(t, b'"') + 1,
+        start: lead + m,
         len: data.len(),
     };
-    with_data(c, params(t), data, span, reference)
+    let params = without_trailing_commas(tail(&t[..q]));
+    with_data(c, params, data, span, reference)
 }
 
 // A command of the line t, whose blanks are off.
@@ -91,12 +82,13 @@ fn read_command(c: Command, t: &[u8], lead: usize, reference: LabelPosition) -> 
     }
 }
 
-// What a line says at a reference, blanks at its ends included; data is counted from its first byte.
-pub fn read_line(line: &[u8], reference: LabelPosition) -> Reading
-    ensures { λ r. ⌜ r ≡ readLine (now (line .entry)) reference ⌝ }
+// What the line that stands at `at` says at a reference, blanks at its ends included.
+pub fn read_line(line: &[u8], at: usize, reference: LabelPosition) -> Reading
+    requires { ⌜ at + length (now line) < 18446744073709551616 ⌝ }
+    ensures { λ r. ⌜ r ≡ laterReading at (readLine (now (line .entry)) reference) ⌝ }
 {
     let started = trim_start(line);
     let lead = line.len() - started.len();
     let t = trim_end(started);
-    read_command(command_of(t), t, lead, reference)
+    read_command(command_of(t), t, at + lead, reference)
 }

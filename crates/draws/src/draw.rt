@@ -7,14 +7,12 @@ use elements::label_element::LabelElement;
 use elements::label_position::LabelPosition;
 use elements::line_color::LineColor;
 use elements::refusal::Refusal;
-use parameters::params::after_two;
-use parameters::params::point_at;
-use parameters::params::size_at;
+use parameters::params::has_fields;
+use parameters::params::point_from;
+use parameters::params::size_from;
 use parameters::position::Placed;
 use parameters::position::place;
 use parameters::reading::Reading;
-use text::fields::after_field;
-use text::fields::field_count;
 use text::int::Checked;
 use text::int::checked_abs;
 use text::int::checked_sub;
@@ -30,11 +28,15 @@ pub struct LineFields {
 pub fn line_fields(s: &[u8]) -> LineFields
     ensures { λ r. ⌜ r ≡ lineFields (now (s .entry)) ⌝ }
 {
-    let at = point_at(s);
-    let t = after_two(s);
-    let width = size_at(t, 1);
-    let height = size_at(after_field(t), 1);
-    LineFields { at, width, height }
+    let p = point_from(s, 0);
+    let at = p.point;
+    let width = size_from(s, p.next, 1);
+    let height = size_from(s, width.next, 1);
+    LineFields {
+        at,
+        width: width.value,
+        height: height.value,
+    }
 }
 
 // A line at a reference, or 13.
@@ -58,7 +60,7 @@ pub fn line_element(f: LineFields, line_color: LineColor, reference: LabelPositi
 pub fn parse_epl_line(params: &[u8], line_color: LineColor, reference: LabelPosition) -> Reading
     ensures { λ r. ⌜ r ≡ lineReading (now (params .entry)) «line_color» reference ⌝ }
 {
-    if field_count(params) < 4 {
+    if !has_fields(params, 4) {
         return Reading::Refused(Refusal::LineFields);
     }
     line_element(line_fields(params), line_color, reference)
@@ -74,13 +76,14 @@ pub struct Corners {
 pub fn corners_at(s: &[u8]) -> Corners
     ensures { λ r. ⌜ r ≡ cornersAt (now (s .entry)) ⌝ }
 {
-    let first = point_at(s);
-    let t = after_two(s);
-    let thickness = size_at(t, 1);
-    let second = point_at(after_field(t));
+    let p = point_from(s, 0);
+    let thickness = size_from(s, p.next, 1);
+    let q = point_from(s, thickness.next);
+    let first = p.point;
+    let second = q.point;
     Corners {
         first,
-        thickness,
+        thickness: thickness.value,
         second,
     }
 }
@@ -162,7 +165,7 @@ pub fn same_way(ax: bool, bx: bool, ay: bool, by: bool) -> bool
 pub fn parse_epl_diagonal(params: &[u8], reference: LabelPosition) -> Reading
     ensures { λ r. ⌜ r ≡ diagonalReading (now (params .entry)) reference ⌝ }
 {
-    if field_count(params) < 5 {
+    if !has_fields(params, 5) {
         return Reading::Refused(Refusal::DiagonalFields);
     }
     let c = corners_at(params);
@@ -189,7 +192,7 @@ fn diagonal(thickness: i32, d: Cornered) -> Reading
 pub fn parse_epl_box(params: &[u8], reference: LabelPosition) -> Reading
     ensures { λ r. ⌜ r ≡ boxReading (now (params .entry)) reference ⌝ }
 {
-    if field_count(params) < 5 {
+    if !has_fields(params, 5) {
         return Reading::Refused(Refusal::BoxFields);
     }
     let c = corners_at(params);

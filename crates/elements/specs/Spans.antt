@@ -1,6 +1,6 @@
 -- Where an element's data lies (01, "Forms that change": "data is a place and length in the input").
 use mathlib.Core.List.{List, [], _∷_}
-use Prim.Native.Nat.{ℕ, _+_, _<_, _≤_}
+use Prim.Native.Nat.{ℕ, _+_, _≤_}
 use Rattle.elements.specs.declared.data_span.DataSpan.{DataSpan}
 use Rattle.elements.specs.declared.label_element.LabelElement.{LabelElement}
 use Rattle.elements.specs.declared.label_element.LabelElement.the-variants.{Text, GraphicBox, DiagonalLine, GraphicField, Barcode128, BarcodeEan13, BarcodeEan8, BarcodeUca, Barcode2of5, Barcode39, BarcodePdf417, BarcodeAztec, BarcodeDatamatrix, BarcodeQr, Maxicode, BarcodeUcpe}
@@ -58,11 +58,3 @@ AllIn n (d ∷ ds) = (d .start + d .len ≤ n) × AllIn n ds
 
 abbrev pub In : ℕ → LabelElement → Type 0
 In n e = AllIn n (spans e)
-
--- its data can be counted from k bytes before in 64 bits
-abbrev pub AllNear : ℕ → List DataSpan → Type 0
-AllNear k [] = Unit
-AllNear k (d ∷ ds) = (k + d .start < 18446744073709551616) × AllNear k ds
-
-abbrev pub Near : ℕ → LabelElement → Type 0
-Near k e = AllNear k (spans e)

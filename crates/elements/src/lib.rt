@@ -1,4 +1,4 @@
-// The records of src/elements that frames carry, by value, under the names of the Rust; refusals. Data only, and the shift of an element's data to its place in the input.
+// The records of src/elements that frames carry, by value, under the names of the Rust; refusals. Data only.
 pub mod barcode_128;
 pub mod barcode_2of5;
 pub mod barcode_39;
@@ -21,5 +21,4 @@ pub mod label_position;
 pub mod line_color;
 pub mod maxicode;
 pub mod refusal;
-pub mod shift;
 pub mod text_field;

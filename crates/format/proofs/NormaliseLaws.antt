@@ -9,7 +9,6 @@ use lib.Seq.{length-take-le, drop-drop, sets, length-sets}
 use borrow.Author.Tests.{lt-ltb, le-ltb}
 use Rattle.text.specs.Wrote.{Wrote}
 use Rattle.text.proofs.BoolLaws.{test}
-use Rattle.text.proofs.DropSteps.{rest}
 use Rattle.text.proofs.WroteLaws.{wrote, wrote-left}
 use Rattle.elements.specs.declared.refusal.Refusal.{Refusal}
 use Rattle.elements.specs.declared.refusal.Refusal.the-variants.{InputTooLong, OutputTooShort}
@@ -27,7 +26,7 @@ use Rattle.format.specs.declared.normalise.Chunk.{Chunk}
 use Rattle.format.specs.declared.normalise.Normalised.{Normalised}
 use Rattle.format.specs.declared.normalise.Normalised.the-variants.{Bytes, Refused}
 use Rattle.format.specs.Put.{Put}
-use Rattle.format.specs.Normalise.{ended, Takes, Formats}
+use Rattle.format.specs.Normalise.{ended, TakesAt, Formats}
 use Rattle.format.proofs.TakesLaws.{ended-some, ended-none}
 
 -- nothing is left at the end
@@ -39,22 +38,16 @@ abbrev pub stays : List ℕ → ℕ → Chunk → List ℕ
 stays s at c = take (at + c .start + c .len - (at + c .start)) (drop (at + c .start) s)
 
 -- at a chunk c, which stands first at `at`
-module _ (s : List ℕ) (at : ℕ) (c : Chunk) (k : Takes (take (length s - at) (drop at s)) (chunk (take (length s - at) (drop at s))) c) where
-  here : Takes (drop at s) (chunk (drop at s)) c
-  here = subst (λ (x : List ℕ). Takes x (chunk x) c) (rest s at) k
-
+module _ (s : List ℕ) (at : ℕ) (c : Chunk) (here : TakesAt s at c) where
   stays-is : stays s at c ≡ take (c .len) (drop (at + c .start) s)
   stays-is = let e : at + c .start + c .len - (at + c .start) ≡ c .len = omega arith in rw e
 
-  passes : at + c .size ≤ length s
-  passes = omega (arith, here .some, here .inside, length-drop at s)
-
   stays-length : length (stays s at c) ≡ c .len
-  stays-length = ap length stays-is ∙ length-take-le (c .len) (drop (at + c .start) s) (rw length-drop (omega (arith, here .part, passes)))
+  stays-length = ap length stays-is ∙ length-take-le (c .len) (drop (at + c .start) s) (rw length-drop (omega (arith, here .part, here .inside)))
 
   pub turn : normalised (drop at s) ≡ ended (stays s at c) ++ normalised (drop (at + c .size) s)
   turn =
-      normalised-is (drop at s) ∙ here .is normalised
+      normalised-is (drop at s) ∙ here .takes .is normalised
       ∙ (λ i. ended (take (c .len) (drop-drop (c .start) at s i)) ++ normalised (drop-drop (c .size) at s i))
       ∙ ap (λ (x : List ℕ). ended x ++ normalised (drop (at + c .size) s)) (sym stays-is)
 
@@ -121,19 +114,3 @@ formats-kept n l s k p h =
     test (ltb (length l) (length (normalised s)))
     (λ f. h .buffer ∙ (simp (e, f)))
     (λ f. let a : refused (numberOf k) p ≡ bytes (length (normalised s)) = h .answer ∙ (simp (e, f)) in let z : _≡_ {A = ℕ} 0 1 = cc in absurd (omega arith)))
-
--- no text is more than twice as long as its input: a chunk of so many bytes leaves one more at most
-length-by : (k : ℕ) (s : List ℕ) → length s < k → length (normalised s) ≤ 2 * length s
-length-by zero s h = absurd (omega arith)
-length-by (suc k) s h = subst (λ (t : List ℕ). length t ≤ 2 * length s) (sym (normalised-is s)) (by (λ t. length-by k t) (chunk s) refl)
-  where
-    by : ((t : List ℕ) → length t < k → length (normalised t) ≤ 2 * length t) → (o : First EplUnit) → chunk s ≡ o → length (written o normalised) ≤ 2 * length s
-    by again none e = omega arith
-    by again (bad n) e = omega arith
-    by again (unit u rest) e =
-        let c = chunk-sound s u rest e in
-        let l = ap length (c .0) ∙ length-append (units.bytes u) rest in
-        omega (arith, l, c .1, again rest (omega arith), normal-le u, length-append (each units.bytes (normal u)) (normalised rest))
-
-pub length-normalised-le : (s : List ℕ) → length (normalised s) ≤ 2 * length s
-length-normalised-le s = length-by (suc (length s)) s (omega arith)

@@ -1,6 +1,7 @@
 -- What is taken first, a line or a block, and the part of it that stays. Assumes nothing.
 use mathlib.Core.Path.{_≡_, refl, sym, ap, subst, _∙_}
 use mathlib.Core.List.{List, [], _∷_, _++_, append-assoc, append-nil}
+use mathlib.Core.Bool.{false}
 use Prim.Native.Nat.{ℕ, _+_, _-_, _<_, _≤_}
 use native.Mathlib.Numerals.{add-one}
 use native.Mathlib.Omega.{arith}
@@ -14,7 +15,7 @@ use Rattle.text.proofs.FieldsLaws.{index-le}
 use Rattle.graphics.specs.declared.gw_span.Graphic.{Graphic}
 use Rattle.graphics.specs.declared.gw_span.Graphic.the-variants as graphic
 use Rattle.graphics.specs.declared.gw_span.GwSpan.{GwSpan}
-use Rattle.graphics.specs.Block.{gwSpan}
+use Rattle.graphics.specs.Block.{opensGw, gwSpan}
 use Rattle.graphics.proofs.BlockLaws.{span-fits}
 use Rattle.whole.specs.Language.{First, unit}
 use Rattle.whole.specs.Normal.{each}
@@ -27,7 +28,7 @@ use Rattle.grammar.proofs.LineTurnLaws.{front-index}
 use Rattle.grammar.proofs.ChunkLaws.{chunk-sound}
 use Rattle.grammar.proofs.TrimmedLaws.{behind, inside}
 use Rattle.format.specs.declared.normalise.Chunk.{Chunk}
-use Rattle.format.specs.Normalise.{ended, Takes}
+use Rattle.format.specs.Normalise.{ended, Takes, Blocks}
 
 -- ---- a part with the LF behind it
 kept-ended : (t : List ℕ) → each bytes (kept t) ≡ ended t
@@ -112,9 +113,17 @@ module _ (s : List ℕ) (n : ℕ) (e : n ≡ indexOf 10 s) where
         }
 
 -- ---- what stands first
-pub takes-text : (s : List ℕ) (c : Chunk) → Takes s (textLine s) c → (o : Graphic) → gwSpan s ≡ o → chunkBy s o ≡ textLine s → Takes s (chunk s) c
+pub takes-text : (s : List ℕ) (c : Chunk) → Takes s (textLine s) c → chunk s ≡ textLine s → Takes s (chunk s) c
+takes-text s c t e = subst (λ (f : First EplUnit). Takes s f c) (sym e) t
+
+-- a line where no block is spanned
+pub no-block : (s : List ℕ) (o : Graphic) → gwSpan s ≡ o → chunkBy s o ≡ textLine s → Blocks s 0
 unfolding chunk
-takes-text s c t o e h = subst (λ (f : First EplUnit). Takes s f c) (sym (ap (chunkBy s) e ∙ h)) t
+no-block s o e h = record { line = λ z. ap (chunkBy s) e ∙ h; block = λ p. absurd (omega arith) }
+
+pub no-opening : (s : List ℕ) → opensGw s ≡ false → Blocks s 0
+unfolding gwSpan
+no-opening s h = no-block s graphic.Nothing (simp h) refl
 
 takes-by : (s bs : List ℕ) (h : Header) (p : List ℕ) (e : ℕ) → chunk s ≡ unit (block bs h p) (drop e s) → 0 < e → e ≤ length s → Takes s (chunk s) (record { size = e; start = 0; len = e })
 takes-by s bs h p e k q l =
@@ -132,6 +141,6 @@ takes-by s bs h p e k q l =
       part = omega arith;
     }
 
-pub takes-block : (s : List ℕ) (g : GwSpan) → gwSpan s ≡ graphic.Span g → Takes s (chunk s) (record { size = g .«data_end»; start = 0; len = g .«data_end» })
+pub one-block : (s : List ℕ) (g : GwSpan) → gwSpan s ≡ graphic.Span g → Blocks s (g .«data_end»)
 unfolding chunk
-takes-block s g e = let f = span-fits s g e in takes-by s _ _ _ (g .«data_end») (ap (chunkBy s) e) (f .end-pos) (f .end-le)
+one-block s g e = let f = span-fits s g e in record { line = λ z. absurd (omega (arith, f .end-pos)); block = λ p. takes-by s _ _ _ (g .«data_end») (ap (chunkBy s) e) (f .end-pos) (f .end-le) }

@@ -10,7 +10,8 @@ use Rattle.whole.specs.Given.{Given, bytes, refused, fitting, stored}
 use Rattle.whole.specs.Language.{First}
 use Rattle.whole.specs.Step.{longest}
 use Rattle.grammar.specs.Units.{EplUnit}
-use Rattle.grammar.specs.Normal.{written, normalised}
+use Rattle.grammar.specs.Found.{textLine}
+use Rattle.grammar.specs.Normal.{chunk, written, normalised}
 use Rattle.format.specs.declared.normalise.Chunk.{Chunk}
 use Rattle.format.specs.declared.normalise.Normalised.{Normalised}
 use Rattle.format.specs.declared.normalise.Normalised.the-variants.{Bytes, Refused}
@@ -48,4 +49,16 @@ pub record Takes (s : List ℕ) (f : First EplUnit) (c : Chunk) : Type 0 where
   pub is : (go : List ℕ → List ℕ) → written f go ≡ ended (partOf s c) ++ go (drop (c .size) s)
   pub some : 0 < c .size
   pub inside : c .size ≤ length s
+  pub part : c .start + c .len ≤ c .size
+
+-- the first n bytes of s are the block that stands first in it, or n is 0 and a line is taken
+pub record Blocks (s : List ℕ) (n : ℕ) : Type 0 where
+  pub line : n ≡ 0 → chunk s ≡ textLine s
+  pub block : 0 < n → Takes s (chunk s) (record { size = n; start = 0; len = n })
+
+-- c is what stands first at a place of s, within s
+pub record TakesAt (s : List ℕ) (at : ℕ) (c : Chunk) : Type 0 where
+  pub takes : Takes (drop at s) (chunk (drop at s)) c
+  pub some : 0 < c .size
+  pub inside : at + c .size ≤ length s
   pub part : c .start + c .len ≤ c .size

@@ -1,16 +1,17 @@
-// 01's "format.rs": blocks are copied whole, lines lose the ASCII blanks at their ends, and each that is left has one LF behind it. The text is measured
-// before anything is written.
+// 01's "format.rs": blocks are copied whole, lines lose the ASCII blanks at their ends, and each that is left has one LF behind it. Where the buffer may be
+// too short the text is measured before anything is written.
 ghost use mathlib.Core.Path.{_≡_};
-ghost use Prim.Native.Nat.{_+_, _<_, _≤_};
+ghost use Prim.Native.Nat.{_+_, _/_, _<_, _≤_};
 ghost use lib.ListN.{length};
 ghost use Rattle.whole.specs.Step.{longest};
 ghost use Rattle.grammar.specs.Found.{textLine};
-ghost use Rattle.grammar.specs.Normal.{chunk, normalised};
+ghost use Rattle.grammar.specs.Normal.{normalised};
 ghost use Rattle.format.specs.Put.{Put};
-ghost use Rattle.format.specs.Normalise.{ended, Takes, Formats};
+ghost use Rattle.format.specs.Normalise.{ended, Takes, TakesAt, Blocks, Formats};
 use elements::refusal::Refusal;
 use graphics::gw_span::Graphic;
 use graphics::gw_span::gw_span;
+use graphics::gw_span::opens_gw;
 use text::blank::trim_ascii_end;
 use text::blank::trim_ascii_start;
 use text::put::put_bytes;
@@ -55,20 +56,35 @@ fn line_chunk(rest: &[u8]) -> Chunk
     }
 }
 
-// What stands first in rest, which goes to the end of input: a block, else a line. A malformed `GW` line is a line.
-fn chunk_at(rest: &[u8]) -> Chunk
-    requires { ⌜ 0 < length (now rest) ⌝ }
-    ensures { λ r. ⌜ Takes (now (rest .entry)) (chunk (now (rest .entry))) r ⌝ }
+// How many bytes the block has that stands first in rest, which goes to the end of input; 0 where a line is taken. A malformed `GW` line is a line.
+fn block_len(rest: &[u8]) -> usize
+    ensures { λ r. ⌜ Blocks (now (rest .entry)) r ⌝ }
 {
-    match gw_span(rest) {
-        Graphic::Nothing => line_chunk(rest),
-        Graphic::Refused(n) => line_chunk(rest),
-        Graphic::Span(g) => Chunk {
-            size: g.data_end,
-            start: 0,
-            len: g.data_end,
-        },
+    if !opens_gw(rest) {
+        return 0;
     }
+    match gw_span(rest) {
+        Graphic::Nothing => 0,
+        Graphic::Refused(n) => 0,
+        Graphic::Span(g) => g.data_end,
+    }
+}
+
+// What stands first at a place: a block, else a line.
+fn chunk_at(input: &[u8], at: usize) -> Chunk
+    requires { ⌜ at < length (now input) ⌝ }
+    ensures { λ r. ⌜ TakesAt (now (input .entry)) at r ⌝ }
+{
+    let rest = &input[at..];
+    let n = block_len(rest);
+    if 0 < n {
+        return Chunk {
+            size: n,
+            start: 0,
+            len: n,
+        };
+    }
+    line_chunk(rest)
 }
 
 // The length of the normalised text: one pass, nothing written.
@@ -79,7 +95,7 @@ fn measure(input: &[u8]) -> usize
     let mut at = 0;
     let mut total = 0;
     while at < input.len() {
-        let c = chunk_at(&input[at..]);
+        let c = chunk_at(input, at);
         if 0 < c.len {
             total += c.len + 1;
         }
@@ -110,13 +126,21 @@ fn put_chunks(input: &[u8], out: &mut [u8]) -> usize
     let mut at = 0;
     let mut to = 0;
     while at < input.len() {
-        let c = chunk_at(&input[at..]);
+        let c = chunk_at(input, at);
         let from = at + c.start;
         let end = from + c.len;
         to = put_ended(&input[from..end], out, to);
         at += c.size;
     }
     to
+}
+
+// No text of n bytes normalises to more, so a buffer of that length needs no measuring.
+fn room_for(n: usize) -> usize
+    requires { ⌜ n ≤ longest ⌝ }
+    ensures { λ r. ⌜ r ≡ n + n / 6 + 1 ⌝ }
+{
+    n + n / 6 + 1
 }
 
 // The normalised text from the start of out, or a refusal: 14, or 15 with the length needed.
@@ -126,9 +150,11 @@ pub fn normalise(input: &[u8], out: &mut [u8]) -> Normalised
     if INPUT_MAX < input.len() {
         return Normalised::Refused(Refusal::InputTooLong, 0);
     }
-    let n = measure(input);
-    if out.len() < n {
-        return Normalised::Refused(Refusal::OutputTooShort, n);
+    if out.len() < room_for(input.len()) {
+        let n = measure(input);
+        if out.len() < n {
+            return Normalised::Refused(Refusal::OutputTooShort, n);
+        }
     }
     Normalised::Bytes(put_chunks(input, out))
 }

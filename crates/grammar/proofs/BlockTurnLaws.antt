@@ -1,4 +1,4 @@
--- What a reader of one unit answers where a graphic stands first: what `blockReading` says, and its data lies in the block.
+-- What a reader of one unit answers where a graphic stands first: what `blockReading` says, at the block's place; and its data lies in the block.
 -- Assumes nothing.
 use mathlib.Core.Path.{_≡_, refl, sym, ap, _∙_}
 use mathlib.Core.List.{List, [], _++_}
@@ -19,9 +19,9 @@ use Rattle.graphics.specs.declared.gw_span.Block.the-variants as block
 use Rattle.graphics.specs.declared.gw_span.Graphic.{Graphic}
 use Rattle.graphics.specs.declared.gw_span.Graphic.the-variants as graphic
 use Rattle.graphics.specs.declared.gw_span.GwSpan.{GwSpan}
-use Rattle.graphics.specs.Block.{gwSpan, graphicPlaced, graphicAt, blockReading}
+use Rattle.graphics.specs.Block.{gwSpan, graphicPlaced, graphicAt, blockReading, laterBlock}
 use Rattle.whole.specs.Language.{yield}
-use Rattle.whole.specs.Reading.{Reading, nothing, fault, gives, did, reading, readingOf}
+use Rattle.whole.specs.Reading.{Reading, nothing, fault, gives, did, reading, readingOf, moved}
 use Rattle.grammar.specs.Units.{Header, gw, bytes, number}
 use Rattle.grammar.specs.Units as units
 use Rattle.grammar.specs.Found.{found, first}
@@ -60,33 +60,43 @@ span-reads s g r e =
     ap (reading epl r) (span-first s g k) ∙ block-reads (k .bs) (k .h) (k .p) r ∙ ap (λ (x : GwSpan). blockTurn (graphicAt x r)) (sym (k .is))
 
 -- a graphic stands first, or one that is refused
-block-turn : (s : List ℕ) (r : LabelPosition) (b : Block) → (b ≡ block.Nothing → ⊥) → blockReading (gwSpan s) r ≡ b → readingOf epl s r ≡ blockTurn b
+block-turn : (s : List ℕ) (r : LabelPosition) → (blockReading (gwSpan s) r ≡ block.Nothing → ⊥) → readingOf epl s r ≡ blockTurn (blockReading (gwSpan s) r)
 unfolding first
-block-turn s r b n h = by (gwSpan s) refl h
+block-turn s r n = by (gwSpan s) refl n
   where
-    by : (o : Graphic) → gwSpan s ≡ o → blockReading o r ≡ b → readingOf epl s r ≡ blockTurn b
-    by graphic.Nothing e h = absurd (n (sym h))
-    by (graphic.Refused m) e h = ap (λ (o : Graphic). reading epl r (found s o)) e ∙ ap blockTurn h
-    by (graphic.Span g) e h = span-reads s g r e ∙ ap blockTurn h
+    by : (o : Graphic) → gwSpan s ≡ o → (blockReading o r ≡ block.Nothing → ⊥) → readingOf epl s r ≡ blockTurn (blockReading o r)
+    by graphic.Nothing e n = absurd (n refl)
+    by (graphic.Refused m) e n = ap (λ (o : Graphic). reading epl r (found s o)) e
+    by (graphic.Span g) e n = span-reads s g r e
 
-pub block-fault : (s : List ℕ) (r : LabelPosition) (n : Refusal) → blockReading (gwSpan s) r ≡ block.Refused n → readingOf epl s r ≡ fault (numberOf n)
-block-fault s r n h = block-turn s r (block.Refused n) refused≢nothing h
+-- ---- as its reader has it: s stands at a place
+moved-block : (at : ℕ) (b : Block) → moved epl at (blockTurn b) ≡ blockTurn (laterBlock at b)
+moved-block at block.Nothing = refl
+moved-block at (block.Refused n) = refl
+moved-block at (block.Element size e) = refl
 
-pub block-gives : (s : List ℕ) (r : LabelPosition) (size : ℕ) (e : LabelElement) → blockReading (gwSpan s) r ≡ block.Element size e → readingOf epl s r ≡ gives size e
-block-gives s r size e h = block-turn s r (block.Element size e) element≢nothing h
+module _ (at : ℕ) (s : List ℕ) (r : LabelPosition) where
+  block-moved : (b : Block) → (b ≡ block.Nothing → ⊥) → laterBlock at (blockReading (gwSpan s) r) ≡ b → moved epl at (readingOf epl s r) ≡ blockTurn b
+  block-moved b n h = ap (moved epl at) (block-turn s r (λ e. n (sym h ∙ ap (laterBlock at) e))) ∙ moved-block at (blockReading (gwSpan s) r) ∙ ap blockTurn h
 
-pub block-none : (s : List ℕ) (r : LabelPosition) → blockReading (gwSpan s) r ≡ block.Nothing → gwSpan s ≡ graphic.Nothing
-unfolding graphicAt
-block-none s r h = by (gwSpan s) h
-  where
-    at : (g : GwSpan) (o : Placed) → graphicPlaced g o ≡ block.Nothing → ⊥
-    at g (placing.At q) h = element≢nothing h
-    at g placing.Outside h = refused≢nothing h
+  pub block-fault : (n : Refusal) → laterBlock at (blockReading (gwSpan s) r) ≡ block.Refused n → moved epl at (readingOf epl s r) ≡ fault (numberOf n)
+  block-fault n h = block-moved (block.Refused n) refused≢nothing h
 
-    by : (o : Graphic) → blockReading o r ≡ block.Nothing → o ≡ graphic.Nothing
-    by graphic.Nothing h = refl
-    by (graphic.Refused m) h = absurd (refused≢nothing h)
-    by (graphic.Span g) h = absurd (at g (placed (g .at .x) (g .at .y) r) h)
+  pub block-gives : (size : ℕ) (e : LabelElement) → laterBlock at (blockReading (gwSpan s) r) ≡ block.Element size e → moved epl at (readingOf epl s r) ≡ gives size e
+  block-gives size e h = block-moved (block.Element size e) element≢nothing h
+
+  pub block-none : laterBlock at (blockReading (gwSpan s) r) ≡ block.Nothing → gwSpan s ≡ graphic.Nothing
+  unfolding graphicAt
+  block-none h = by (gwSpan s) h
+    where
+      no : (g : GwSpan) (o : Placed) → laterBlock at (graphicPlaced g o) ≡ block.Nothing → ⊥
+      no g (placing.At q) h = element≢nothing h
+      no g placing.Outside h = refused≢nothing h
+
+      by : (o : Graphic) → laterBlock at (blockReading o r) ≡ block.Nothing → o ≡ graphic.Nothing
+      by graphic.Nothing h = refl
+      by (graphic.Refused m) h = absurd (refused≢nothing h)
+      by (graphic.Span g) h = absurd (no g (placed (g .at .x) (g .at .y) r) h)
 
 -- ---- its data
 pub block-in : (r : LabelPosition) (bs : List ℕ) (h : Header) (p : List ℕ) (e : LabelElement) → acts r (units.block bs h p) ≡ yield e → In (length (bytes (units.block bs h p))) e

@@ -1,8 +1,8 @@
 -- Normalised text, unit by unit: a unit that stands first is written in its normal form, which is settled, has its blocks and grows little.
 -- Assumes nothing.
-use mathlib.Core.Path.{_≡_, refl, ap, _∙_}
+use mathlib.Core.Path.{_≡_, refl, sym, ap, subst, _∙_}
 use mathlib.Core.List.{List, [], _∷_, _++_, append-nil}
-use Prim.Native.Nat.{ℕ, _+_, _≤_}
+use Prim.Native.Nat.{ℕ, zero, suc, _+_, _/_, _<_, _≤_}
 use native.Mathlib.Omega.{arith}
 use lib.ListN.{length, length-append}
 use Rattle.text.specs.Blank.{trimAscii}
@@ -10,14 +10,15 @@ use Rattle.text.proofs.TrimLaws.{trim-ascii-trim-ascii}
 use Rattle.graphics.specs.declared.gw_span.Graphic.{Graphic}
 use Rattle.graphics.specs.declared.gw_span.Graphic.the-variants as graphic
 use Rattle.graphics.specs.Block.{opensGw, gwSpan}
-use Rattle.whole.specs.Language.{First, unit}
+use Rattle.whole.specs.Language.{First, none, bad, unit}
 use Rattle.whole.specs.Normal.{each, Grows, no-longer, by-block, by-last}
 use Rattle.whole.proofs.DivisionLaws.{bad≢unit}
 use Rattle.grammar.specs.Units.{EplUnit, block, line, last, bytes, Stands}
 use Rattle.grammar.specs.Found.{textLine, found, first}
 use Rattle.grammar.specs.Normal.{kept, normal, blocks, chunkBy, chunk, written, normalised}
+use Rattle.grammar.proofs.LineLaws.{TextLine, line-sound}
 use Rattle.grammar.proofs.FoundLaws.{judged-sound, reads}
-use Rattle.grammar.proofs.ChunkLaws.{normalised-is}
+use Rattle.grammar.proofs.ChunkLaws.{chunk-sound, normalised-is}
 use Rattle.grammar.proofs.TrimmedLaws.{length-trimmed-le}
 
 -- ---- what is written
@@ -71,7 +72,45 @@ normal-le (block bs h p) = omega (arith, length-append (bytes (block bs h p)) (1
 normal-le (line t) = omega (arith, length-kept-le (trimAscii t), length-trimmed-le t, length-append t (10 ∷ []))
 normal-le (last t) = omega (arith, length-kept-le (trimAscii t), length-trimmed-le t)
 
+line-grows : (t rest : List ℕ) → Grows (length (bytes (line t))) (length (each bytes (normal (line t)))) rest
+line-grows t rest = no-longer (omega (arith, length-kept-le (trimAscii t), length-trimmed-le t, length-append t (10 ∷ [])))
+
 pub normal-grows : (u : EplUnit) (rest : List ℕ) → Stands u rest → Grows (length (bytes u)) (length (each bytes (normal u))) rest
 normal-grows (block bs h p) rest st = by-block (normal-le (block bs h p)) (simp length-append (omega arith))
-normal-grows (line t) rest st = no-longer (omega (arith, length-kept-le (trimAscii t), length-trimmed-le t, length-append t (10 ∷ [])))
+normal-grows (line t) rest st = line-grows t rest
 normal-grows (last t) rest st = by-last (normal-le (last t)) (st .2)
+
+-- the same of a line that is taken as text, whatever it says
+text-grows : (u : EplUnit) (rest : List ℕ) → TextLine u rest → Grows (length (bytes u)) (length (each bytes (normal u))) rest
+text-grows (block bs h p) rest st = absurd st
+text-grows (line t) rest st = line-grows t rest
+text-grows (last t) rest st = by-last (normal-le (last t)) (st .2)
+
+chunk-grows : (s : List ℕ) (u : EplUnit) (rest : List ℕ) → chunk s ≡ unit u rest → Grows (length (bytes u)) (length (each bytes (normal u))) rest
+unfolding chunk first
+chunk-grows s u rest h = by (gwSpan s) refl h
+  where
+    by : (o : Graphic) → gwSpan s ≡ o → chunkBy s o ≡ unit u rest → Grows (length (bytes u)) (length (each bytes (normal u))) rest
+    by graphic.Nothing e h = text-grows u rest (line-sound s u rest h .1)
+    by (graphic.Refused n) e h = text-grows u rest (line-sound s u rest h .1)
+    by (graphic.Span g) e h = normal-grows u rest (reads .sound s u rest (ap (found s) e ∙ h) .1)
+
+-- ---- the text of any string, refused ones too, of n bytes: n + n / 6 + 1 at most
+length-by : (k : ℕ) (s : List ℕ) → length s < k → length (normalised s) ≤ length s + length s / 6 + 1
+length-by zero s h = absurd (omega arith)
+length-by (suc k) s h = subst (λ (t : List ℕ). length t ≤ length s + length s / 6 + 1) (sym (normalised-is s)) (by (λ t. length-by k t) (chunk s) refl)
+  where
+    by : ((t : List ℕ) → length t < k → length (normalised t) ≤ length t + length t / 6 + 1) → (o : First EplUnit) → chunk s ≡ o → length (written o normalised) ≤ length s + length s / 6 + 1
+    by again none e = omega arith
+    by again (bad n) e = omega arith
+    by again (unit u rest) e =
+        let c = chunk-sound s u rest e in
+        go (ap length (c .0) ∙ length-append (bytes u) rest) (length-append (each bytes (normal u)) (normalised rest)) (again rest (omega (arith, c .1, ap length (c .0), length-append (bytes u) rest))) (chunk-grows s u rest e)
+      where
+        go : length s ≡ length (bytes u) + length rest → length (each bytes (normal u) ++ normalised rest) ≡ length (each bytes (normal u)) + length (normalised rest) → length (normalised rest) ≤ length rest + length rest / 6 + 1 → Grows (length (bytes u)) (length (each bytes (normal u))) rest → length (each bytes (normal u) ++ normalised rest) ≤ length s + length s / 6 + 1
+        go m n i (no-longer h) = omega (arith, n, m)
+        go m n i (by-block h six) = omega (arith, n, m)
+        go m n i (by-last h end) = omega (arith, n, m, ap length (ap normalised end ∙ normalised-nil))
+
+pub length-normalised-le : (s : List ℕ) → length (normalised s) ≤ length s + length s / 6 + 1
+length-normalised-le s = length-by (suc (length s)) s (omega arith)

@@ -11,6 +11,7 @@ use Rattle.elements.specs.declared.label_position.LabelPosition.{LabelPosition}
 use Rattle.elements.specs.Spans.{In, shifted}
 use Rattle.parameters.specs.declared.reading.Reading.{Reading}
 use Rattle.parameters.specs.declared.reading.Reading.the-variants as reading
+use Rattle.parameters.specs.Reading.{laterReading}
 use Rattle.spelling.specs.Command.{isReference, isPrint, commandOf}
 use Rattle.commands.specs.Line.{leadOf, readLine}
 use Rattle.graphics.specs.Block.{opensGw}
@@ -23,7 +24,7 @@ use Rattle.grammar.specs.Epl.{actOf, epl}
 use Rattle.grammar.specs.Normal.{kept, normal, blocks, normalised}
 use Rattle.grammar.proofs.SpanLaws.{line-in}
 use Rattle.grammar.proofs.TrimmedLaws.{command-trimmed}
-use Rattle.grammar.proofs.LaterLaws.{onElement, line-later, within}
+use Rattle.grammar.proofs.LaterLaws.{line-later, within}
 use Rattle.grammar.proofs.NormalLaws.{normalised-unit, normalised-nil, normal-settled, normal-blocks, normal-grows}
 
 -- ---- a normal form stands before anything
@@ -67,7 +68,7 @@ module _ (F : Type 0) (frame : List ℕ → LabelElement → F)
   line-does : (u : EplUnit) (t end : List ℕ) (r : LabelPosition) (p : List F) → bytes u ≡ t ++ end → does u t r p ≡ does (last (trim t)) (trim t) r p
   line-does u t end r p b = ap (λ (x : Reading). effect epl F frame r p u (actOf r x)) (line-later t r) ∙ by (readLine (trim t) r) refl
     where
-      by : (x : Reading) → readLine (trim t) r ≡ x → effect epl F frame r p u (actOf r (onElement (shifted (leadOf t)) x)) ≡ effect epl F frame r p (last (trim t)) (actOf r x)
+      by : (x : Reading) → readLine (trim t) r ≡ x → effect epl F frame r p u (actOf r (laterReading (leadOf t) x)) ≡ effect epl F frame r p (last (trim t)) (actOf r x)
       by (reading.Element e) h =
           ap (λ (f : F). goes [] r (p ++ (f ∷ []))) (ap (λ (x : List ℕ). frame x (shifted (leadOf t) e)) b ∙ line-frame t end e (line-in (trim t) r e h))
       by reading.Nothing h = refl

@@ -1,16 +1,15 @@
 -- The data of what a line yields lies in the line.
 -- Assumes nothing.
-use mathlib.Core.Path.{_≡_, ap, _∙_}
+use mathlib.Core.Path.{_≡_}
 use mathlib.Core.List.{List, reverse}
 use Prim.Native.Nat.{ℕ, suc, _+_, _-_, _<_, _≤_}
 use native.Mathlib.Omega.{arith}
 use lib.Dec.{eqb}
-use lib.ListN.{length, length-take, length-drop, length-reverse}
+use lib.ListN.{length, length-drop, length-reverse}
 use borrow.Author.Tests.{eqb-false}
-use Rattle.text.specs.Blank.{trimStart, trim}
+use Rattle.text.specs.Blank.{trim}
 use Rattle.text.specs.Fields.{indexOf, after, beforeLast, quoted}
 use Rattle.text.proofs.BoolLaws.{test}
-use Rattle.text.proofs.TrimLaws.{trim-start-is, trim-end-is}
 use Rattle.elements.specs.declared.label_element.LabelElement.{LabelElement}
 use Rattle.elements.specs.declared.label_position.LabelPosition.{LabelPosition}
 use Rattle.elements.specs.Spans.{AllIn, In}
@@ -21,6 +20,7 @@ use Rattle.spelling.specs.declared.command.Command.the-variants.{Clear, Referen
 use Rattle.spelling.specs.declared.command.DataCommand.{DataCommand}
 use Rattle.spelling.specs.Command.{commandOf}
 use Rattle.commands.specs.Line.{quotedReading, commandReading, leadOf, readLine}
+use Rattle.commands.proofs.LineLaws.{lead-le}
 use Rattle.whole.specs.Language.{yield}
 use Rattle.grammar.specs.Epl.{actOf}
 use Rattle.grammar.proofs.ReadingLaws.{dataOf, yielded}
@@ -43,13 +43,6 @@ read-some c lead t r e h =
     test (eqb (length (quoted t)) 0)
     (λ k. let w = simp k at h in let z : _≡_ {A = ℕ} 0 1 = cc in omega arith)
     (λ k. let n = eqb-false (length (quoted t)) 0 k in omega arith)
-
--- the blanks before a line, and what is left of it
-pub lead-le : (t : List ℕ) → leadOf t + length (trim t) ≤ length t
-lead-le t =
-    let a = ap length (trim-start-is t) ∙ length-drop (length t - length (trimStart t)) t in
-    let b = ap length (trim-end-is (trimStart t)) ∙ length-take (length (trim t)) (trimStart t) in
-    omega arith
 
 in-command : (c : Command) (lead : ℕ) (t : List ℕ) (r : LabelPosition) (e : LabelElement) (n : ℕ) → commandReading c lead t r ≡ reading.Element e → lead + length t ≤ n → AllIn n (dataOf c lead t)
 in-command Clear lead t r e n h l = tt

@@ -14,6 +14,7 @@ use Rattle.text.specs.Number.{fieldOr}
 use Rattle.elements.specs.declared.label_element.LabelElement.the-variants as element
 use Rattle.elements.specs.declared.label_position.LabelPosition.{LabelPosition}
 use Rattle.elements.specs.declared.refusal.Refusal.the-variants as refusal
+use Rattle.elements.specs.Spans.{shifted}
 use Rattle.graphics.specs.declared.gw_span.Block.{Block}
 use Rattle.graphics.specs.declared.gw_span.Block.the-variants as block
 use Rattle.graphics.specs.declared.gw_span.Graphic.{Graphic}
@@ -109,6 +110,12 @@ abbrev pub blockReading : Graphic → LabelPosition → Block
 blockReading graphic.Nothing r = block.Nothing
 blockReading (graphic.Refused n) r = block.Refused n
 blockReading (graphic.Span g) r = graphicAt g r
+
+-- the same where n bytes more stand before the block: only its data moves
+abbrev pub laterBlock : ℕ → Block → Block
+laterBlock n block.Nothing = block.Nothing
+laterBlock n (block.Refused k) = block.Refused k
+laterBlock n (block.Element size e) = block.Element size (shifted n e)
 
 -- what `header_field_len` answers: how far the first header field goes
 pub record FieldLen (t : List ℕ) (r : ℕ) : Type 0 where

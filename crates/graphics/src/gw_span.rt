@@ -1,8 +1,10 @@
 // `GW`: graphic blocks. The header is scanned no further than its fourth comma or an LF; the payload is not looked at.
 ghost use mathlib.Core.Path.{_≡_};
+ghost use mathlib.Core.Bool.{true};
 ghost use Prim.Native.Nat.{_+_, _<_, _≤_};
+ghost use lib.ListN.{length};
 ghost use Rattle.text.specs.Blank.{dropWhile};
-ghost use Rattle.graphics.specs.Block.{isLineBlank, opensGw, inField, closes, headerNumber, afterHeaderField, fourClosed, payloadOf, gwNumbers, measured, gwSpan, graphicAt, blockReading, FieldLen};
+ghost use Rattle.graphics.specs.Block.{isLineBlank, opensGw, inField, closes, headerNumber, afterHeaderField, fourClosed, payloadOf, gwNumbers, measured, gwSpan, graphicAt, blockReading, laterBlock, FieldLen};
 use elements::data_span::DataSpan;
 use elements::graphic_field::GraphicField;
 use elements::label_element::LabelElement;
@@ -176,13 +178,11 @@ fn measure(n: GwNumbers, start: usize, left: usize) -> Graphic
     })
 }
 
-// The graphic that stands first in rest, which goes to the end of input; places are counted from rest's first byte.
-pub fn gw_span(rest: &[u8]) -> Graphic
+// The graphic whose `GW` stands first in rest, or 10, 11, 12.
+fn opened_gw(rest: &[u8]) -> Graphic
+    requires { ⌜ opensGw (now rest) ≡ true ⌝ }
     ensures { λ r. ⌜ r ≡ gwSpan (now (rest .entry)) ⌝ }
 {
-    if !opens_gw(rest) {
-        return Graphic::Nothing;
-    }
     let t = tail_two(trim_line_start(rest));
     if !four_closed(t) {
         return Graphic::Refused(Refusal::GraphicFields);
@@ -191,31 +191,43 @@ pub fn gw_span(rest: &[u8]) -> Graphic
     measure(gw_numbers(t), rest.len() - p.len(), p.len())
 }
 
-// What a block says: its bytes with its element, whose data is counted from the block's first byte.
+// The graphic that stands first in rest, which goes to the end of input; places are counted from rest's first byte. Small, so that it is inlined: it is
+// asked before every line.
+pub fn gw_span(rest: &[u8]) -> Graphic
+    ensures { λ r. ⌜ r ≡ gwSpan (now (rest .entry)) ⌝ }
+{
+    if !opens_gw(rest) {
+        return Graphic::Nothing;
+    }
+    opened_gw(rest)
+}
+
+// What a block says: its bytes with its element.
 pub enum Block {
     Nothing,
     Refused(Refusal),
     Element(usize, LabelElement),
 }
 
-// The block that stands first in rest, at a reference: 10, 11, 12, then 13.
-pub fn read_block(rest: &[u8], reference: LabelPosition) -> Block
-    ensures { λ r. ⌜ r ≡ blockReading (gwSpan (now (rest .entry))) reference ⌝ }
+// The block that stands first in rest, itself at the place `at`, at a reference: 10, 11, 12, then 13.
+pub fn read_block(rest: &[u8], at: usize, reference: LabelPosition) -> Block
+    requires { ⌜ at + length (now rest) < 18446744073709551616 ⌝ }
+    ensures { λ r. ⌜ r ≡ laterBlock at (blockReading (gwSpan (now (rest .entry))) reference) ⌝ }
 {
     match gw_span(rest) {
         Graphic::Nothing => Block::Nothing,
         Graphic::Refused(n) => Block::Refused(n),
-        Graphic::Span(g) => graphic_at(g, reference),
+        Graphic::Span(g) => graphic_at(g, at, reference),
     }
 }
 
-// The graphic at a reference, or 13.
-fn graphic_at(g: GwSpan, reference: LabelPosition) -> Block
-    requires { ⌜ g .«data_start» ≤ g .«data_end» ⌝ }
-    ensures { λ r. ⌜ r ≡ graphicAt g reference ⌝ }
+// The graphic of a block at the place `at`, at a reference, or 13.
+fn graphic_at(g: GwSpan, at: usize, reference: LabelPosition) -> Block
+    requires { ⌜ (g .«data_start» ≤ g .«data_end») × (at + g .«data_end» < 18446744073709551616) ⌝ }
+    ensures { λ r. ⌜ r ≡ laterBlock at (graphicAt g reference) ⌝ }
 {
-    let at = g.at;
-    let Placed::At(position) = place(at.x, at.y, reference) else {
+    let p = g.at;
+    let Placed::At(position) = place(p.x, p.y, reference) else {
         return Block::Refused(Refusal::OutOfRange);
     };
     Block::Element(
@@ -224,7 +236,7 @@ fn graphic_at(g: GwSpan, reference: LabelPosition) -> Block
             position,
             row_bytes: g.width_bytes,
             data: DataSpan {
-                start: g.data_start,
+                start: at + g.data_start,
                 len: g.data_end - g.data_start,
             },
         }),

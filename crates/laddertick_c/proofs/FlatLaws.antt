@@ -1,13 +1,13 @@
 -- A flat answer says what the library answered: no refusal has the number 0. Assumes nothing.
-use mathlib.Core.Path.{_≡_, refl, ap, _∙_}
+use mathlib.Core.Path.{_≡_, refl}
 use Prim.Native.Nat.{ℕ}
 use Rattle.elements.specs.declared.refusal.Refusal.{Refusal}
 use Rattle.elements.specs.declared.refusal.Refusal.the-variants.{TextFields, BarcodeFields, Barcode2dFields, LineFields, DiagonalFields, BoxFields, BarcodeType, Barcode2dType, QrData, GraphicFields, GraphicNegative, GraphicTruncated, OutOfRange, InputTooLong, OutputTooShort, StateOutside}
 use Rattle.elements.specs.Refusals.{numberOf}
-use Rattle.whole.specs.Given.{Given, bytes, refused}
-use Rattle.laddertick_c.specs.Flat.{givenFlat}
+use Rattle.whole.specs.Given.{refused}
+use Rattle.flat.specs.Written.{givenFlat}
 
-flat-refusal : (k : Refusal) (p : ℕ) → givenFlat (record { number = numberOf k; place = p }) ≡ refused (numberOf k) p
+pub flat-refusal : (k : Refusal) (p : ℕ) → givenFlat (record { number = numberOf k; place = p }) ≡ refused (numberOf k) p
 flat-refusal TextFields p = refl
 flat-refusal BarcodeFields p = refl
 flat-refusal Barcode2dFields p = refl
@@ -24,10 +24,3 @@ flat-refusal OutOfRange p = refl
 flat-refusal InputTooLong p = refl
 flat-refusal OutputTooShort p = refl
 flat-refusal StateOutside p = refl
-
--- a length, or a refusal by its number m, as given flat
-pub flat-length : (k : ℕ) (g : Given) → bytes k ≡ g → givenFlat (record { number = 0; place = k }) ≡ g
-flat-length k g e = e
-
-pub flat-number : (k : Refusal) (p m : ℕ) (g : Given) → refused (numberOf k) p ≡ g → m ≡ numberOf k → givenFlat (record { number = m; place = p }) ≡ g
-flat-number k p m g e q = ap (λ (x : ℕ). givenFlat (record { number = x; place = p })) q ∙ flat-refusal k p ∙ e

@@ -1,2 +1,2 @@
--- the flat answers of the static library
-pub mod Flat
+-- 01, "Forms that change": states and answers of steps, flat
+pub mod Steps

@@ -1,48 +1,70 @@
 // The static library that hosts link. Nothing is asked of a caller but that what it lends is its own for the call.
-ghost use Rattle.frames.specs.Listing.{outcomeOf};
-ghost use Rattle.laddertick_c.specs.Flat.{ListsFlat, FormatsFlat};
-use laddertick::Listed;
-use laddertick::Normalised;
+ghost use mathlib.Core.Path.{_≡_};
+ghost use Rattle.whole.specs.Step as theory;
+ghost use Rattle.grammar.specs.Epl.{epl};
+ghost use Rattle.flat.specs.Decoding as decoding;
+ghost use Rattle.flat.specs.Written.{Flat};
+ghost use Rattle.format.specs.Normalise as normalise;
+ghost use Rattle.frames.specs.Listing as listing;
+ghost use Rattle.laddertick_c.specs.Steps.{freshWalk, stateOfWalk, flatOf};
+
+pub mod steps;
+pub mod written;
+
+use crate::steps::flat_step;
+use crate::steps::state_of;
+use crate::written::of_listed;
+use crate::written::of_normalised;
+use elements::data_span::DataSpan;
+use flat::answer::Answer;
+use flat::answer::Walk;
+use flat::data::decode;
+use flat::written::Written;
 use laddertick::list;
 use laddertick::normalise;
+use laddertick::step;
 
-// number 0: the text is written, place is its length. Else a refusal: its number and its place.
-#[repr(C)]
-pub struct Written {
-    pub number: u32,
-    pub place: usize,
+// The state before the first byte.
+#[no_mangle]
+pub extern "C" fn laddertick_start() -> Walk
+    ensures { λ r. ⌜ r ≡ freshWalk ⌝ }
+{
+    Walk {
+        place: 0,
+        x: 0,
+        y: 0,
+        pending: 0,
+    }
+}
+
+// One step from any state: an element, a clear, a print, the end, or a refusal with the state as given.
+#[no_mangle]
+pub extern "C" fn laddertick_step(input: &[u8], walk: Walk) -> Answer
+    ensures { λ r. ⌜ r ≡ flatOf (theory.step epl (now (input .entry)) (stateOfWalk walk)) ⌝ }
+{
+    flat_step(step(input, state_of(walk)))
+}
+
+// What the len bytes at start are decoded to, as far as the input goes, from the start of out; or a refusal that leaves out as it came.
+#[no_mangle]
+pub extern "C" fn laddertick_data(input: &[u8], start: usize, len: usize, out: &mut [u8]) -> Written
+    ensures { λ r. ⌜ Flat (now (out .exit)) (now (out .entry)) (decoding.answerOf (now (input .entry)) (record { start = start; len = len })) (decoding.bufferOf (now (input .entry)) (record { start = start; len = len })) r ⌝ }
+{
+    decode(input, DataSpan { start, len }, out)
 }
 
 // The listing of input's labels from the start of out, or a refusal that leaves out as it came.
 #[no_mangle]
 pub extern "C" fn laddertick_list(input: &[u8], out: &mut [u8]) -> Written
-    ensures { λ r. ⌜ ListsFlat (now (out .exit)) (now (out .entry)) (outcomeOf (now (input .entry))) r ⌝ }
+    ensures { λ r. ⌜ Flat (now (out .exit)) (now (out .entry)) (listing.listedOf (listing.outcomeOf (now (input .entry)))) (listing.bufferOf (listing.outcomeOf (now (input .entry)))) r ⌝ }
 {
-    match list(input, out) {
-        Listed::Bytes(n) => Written {
-            number: 0,
-            place: n,
-        },
-        Listed::Refused(k, p) => Written {
-            number: k.number() as u32,
-            place: p,
-        },
-    }
+    of_listed(list(input, out))
 }
 
 // The normalised text of input from the start of out, or a refusal that leaves out as it came.
 #[no_mangle]
 pub extern "C" fn laddertick_normalise(input: &[u8], out: &mut [u8]) -> Written
-    ensures { λ r. ⌜ FormatsFlat (now (out .exit)) (now (out .entry)) (now (input .entry)) r ⌝ }
+    ensures { λ r. ⌜ Flat (now (out .exit)) (now (out .entry)) (normalise.answerOf (now (input .entry))) (normalise.bufferOf (now (input .entry))) r ⌝ }
 {
-    match normalise(input, out) {
-        Normalised::Bytes(n) => Written {
-            number: 0,
-            place: n,
-        },
-        Normalised::Refused(k, p) => Written {
-            number: k.number() as u32,
-            place: p,
-        },
-    }
+    of_normalised(normalise(input, out))
 }

@@ -19,7 +19,7 @@ use Rattle.frames.specs.Printing.{refusalLine}
 use Rattle.format.specs.Normalise.{givenOf, answerOf, bufferOf, Formats}
 use Rattle.format.specs.declared.normalise.Normalised.{Normalised}
 use Rattle.format.specs.declared.normalise.Normalised.the-variants.{Bytes, Refused}
-use Rattle.format.proofs.NormaliseLaws.{length-normalised-le}
+use Rattle.grammar.proofs.NormalLaws.{length-normalised-le}
 use Rattle.normalise.specs.Printed.{textOf, printedOf}
 
 bytes≢refused : {k n p : ℕ} → _≡_ {A = Given} (bytes k) (refused n p) → ⊥

@@ -1,2 +1,3 @@
 pub mod FloatLaws
 pub mod ParamsLaws
+pub mod PlaceLaws

@@ -4,3 +4,5 @@ pub mod Position
 pub mod Rotation
 -- 01, "Grammar": fields in order, their numbers and defaults
 pub mod Params
+-- 01, "Forms that change": what a line says at a later place
+pub mod Reading

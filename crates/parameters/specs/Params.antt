@@ -1,13 +1,18 @@
 -- Fields in order, as the parameter part s is read from its front: the k-th field is the first of what follows k commas.
-use Prim.Native.Nat.{ℕ}
+use mathlib.Core.Path.{_≡_}
+use Prim.Native.Nat.{ℕ, _+_, _-_, _<_, _≤_}
 use mathlib.Core.Bool.{Bool}
 use mathlib.Core.List.{List, [], _∷_}
 use lib.IntN.{ℤ, pos}
+use lib.ListN.{length, drop}
 use Rattle.text.specs.Blank.{trim}
-use Rattle.text.specs.Fields.{before, after, same}
+use Rattle.text.specs.Fields.{indexOf, before, after, same}
 use Rattle.text.specs.Int.{maxZ}
-use Rattle.text.specs.Number.{fieldOr}
+use Rattle.text.specs.Number.{valueFrom, fieldOr}
 use Rattle.elements.specs.declared.label_position.LabelPosition.{LabelPosition}
+use Rattle.parameters.specs.declared.params.Numbered.{Numbered}
+use Rattle.parameters.specs.declared.params.Digits.{Digits}
+use Rattle.parameters.specs.declared.params.Pointed.{Pointed}
 
 -- the number in the first field, or its default
 unfoldable pub numberAt : ℤ → List ℕ → ℤ
@@ -28,3 +33,29 @@ typeAt s = trim (before 44 s)
 -- the first field is "exactly" the byte b, "blanks off"
 unfoldable pub exactly : ℕ → List ℕ → Bool
 exactly b s = same (typeAt s) (b ∷ [])
+
+-- By place: what is read from a place of s on, and the place of what follows, s's length where nothing does.
+
+-- where t begins, which s ends with
+abbrev pub placeOf : List ℕ → List ℕ → ℕ
+placeOf s t = length s - length t
+
+-- a number, and the place behind its comma
+unfoldable pub numberFrom : ℤ → List ℕ → ℕ → Numbered
+numberFrom d s at = record { value = numberAt d (drop at s); next = placeOf s (after 44 (drop at s)) }
+
+-- the same where the least value is 1
+unfoldable pub sizeFrom : ℤ → List ℕ → ℕ → Numbered
+sizeFrom d s at = record { value = sizeAt d (drop at s); next = placeOf s (after 44 (drop at s)) }
+
+-- x and y, and the place behind the comma of y
+unfoldable pub pointFrom : List ℕ → ℕ → Pointed
+pointFrom s at = record { point = pointAt (drop at s); next = placeOf s (after 44 (after 44 (drop at s))) }
+
+-- what `digits_from` answers: nothing but digits stands from at up to r's end, and the field goes on there with their value
+pub record Ran (s : List ℕ) (at : ℕ) (r : Digits) : Type 0 where
+  pub low : at ≤ r .end
+  pub high : r .end ≤ length s
+  pub small : r .value < 1000000000
+  pub place : at + indexOf 44 (drop at s) ≡ r .end + indexOf 44 (drop (r .end) s)
+  pub digits : valueFrom 0 (before 44 (drop at s)) ≡ valueFrom (r .value) (before 44 (drop (r .end) s))

@@ -1,47 +1,130 @@
-// The parameter part of a command, field by field: each function reads what stands first and leaves the rest to the next.
+// The parameter part of a command, field by field: a slice and the place of the next field, so that each byte is looked at once.
 ghost use mathlib.Core.Path.{_≡_};
-ghost use lib.ListN.{drop};
-ghost use Rattle.text.specs.Fields.{after};
-ghost use Rattle.parameters.specs.Params.{numberAt, sizeAt, pointAt, typeAt, exactly};
+ghost use Prim.Native.Nat.{_≤_};
+ghost use lib.Dec.{leb};
+ghost use lib.ListN.{length, drop};
+ghost use Rattle.text.specs.Fields.{fields};
+ghost use Rattle.parameters.specs.Params.{Ran, numberFrom, sizeFrom, pointFrom, typeAt, exactly};
 use elements::label_position::LabelPosition;
 use text::blank::trim;
-use text::fields::after_field;
+use text::class::is_digit;
 use text::fields::first_field;
 use text::int::max;
 use text::number::number_or;
+use text::scan::find;
 
-// The number in the first field, or the default.
-pub fn number_at(s: &[u8], default: i32) -> i32
-    ensures { λ r. ⌜ r ≡ numberAt default (now (s .entry)) ⌝ }
+// A number field's value, and the place of what follows its comma.
+pub struct Numbered {
+    pub value: i32,
+    pub next: usize,
+}
+
+// The value of digits, and where they end.
+struct Digits {
+    value: u32,
+    end: usize,
+}
+
+// The digits from at on, as far as nine are enough to say their value.
+fn digits_from(s: &[u8], at: usize) -> Digits
+    requires { ⌜ at ≤ length (now s) ⌝ }
+    ensures { λ r. ⌜ Ran (now (s .entry)) at r ⌝ }
 {
-    number_or(first_field(s), default)
+    let mut value: u32 = 0;
+    let mut end = at;
+    while end < s.len() && value < 100000000 && is_digit(s[end]) {
+        value = value * 10 + ((s[end] - 48) as u32);
+        end += 1;
+    }
+    Digits { value, end }
+}
+
+// The slow way, for any field: blanks, a sign, many digits, or no number.
+fn any_from(s: &[u8], at: usize, default: i32) -> Numbered
+    requires { ⌜ at ≤ length (now s) ⌝ }
+    ensures { λ r. ⌜ r ≡ numberFrom default (now (s .entry)) at ⌝ }
+{
+    let end = at + find(&s[at..], b',');
+    let value = number_or(&s[at..end], default);
+    if end < s.len() {
+        return Numbered {
+            value,
+            next: end + 1,
+        };
+    }
+    Numbered { value, next: end }
+}
+
+// The number in the field at a place, or the default. A few digits, which most fields are, say their value as they stand.
+pub fn number_from(s: &[u8], at: usize, default: i32) -> Numbered
+    ensures { λ r. ⌜ r ≡ numberFrom default (now (s .entry)) at ⌝ }
+{
+    if s.len() < at {
+        return Numbered {
+            value: default,
+            next: s.len(),
+        };
+    }
+    let d = digits_from(s, at);
+    let end = d.end;
+    let value = d.value as i32;
+    if at < end {
+        if end == s.len() {
+            return Numbered { value, next: end };
+        }
+        if s[end] == b',' {
+            return Numbered {
+                value,
+                next: end + 1,
+            };
+        }
+    }
+    any_from(s, at, default)
 }
 
 // The same where the least value is 1.
-pub fn size_at(s: &[u8], default: i32) -> i32
-    ensures { λ r. ⌜ r ≡ sizeAt default (now (s .entry)) ⌝ }
+pub fn size_from(s: &[u8], at: usize, default: i32) -> Numbered
+    ensures { λ r. ⌜ r ≡ sizeFrom default (now (s .entry)) at ⌝ }
 {
-    max(number_at(s, default), 1)
+    let n = number_from(s, at, default);
+    Numbered {
+        value: max(n.value, 1),
+        next: n.next,
+    }
 }
 
-// x and y in the first two fields.
-pub fn point_at(s: &[u8]) -> LabelPosition
-    ensures { λ r. ⌜ r ≡ pointAt (now (s .entry)) ⌝ }
-{
-    let x = number_at(s, 0);
-    let y = number_at(after_field(s), 0);
-    LabelPosition { x, y }
+// x and y in two fields, and the place of what follows.
+pub struct Pointed {
+    pub point: LabelPosition,
+    pub next: usize,
 }
 
-// What follows the second comma.
-pub fn after_two(s: &[u8]) -> &[u8]
-    ensures { λ r. ⌜ now r ≡ after 44 (after 44 (now (s .entry))) ⌝ }
+pub fn point_from(s: &[u8], at: usize) -> Pointed
+    ensures { λ r. ⌜ r ≡ pointFrom (now (s .entry)) at ⌝ }
 {
-    after_field(after_field(s))
+    let x = number_from(s, at, 0);
+    let y = number_from(s, x.next, 0);
+    Pointed {
+        point: LabelPosition {
+            x: x.value,
+            y: y.value,
+        },
+        next: y.next,
+    }
+}
+
+// What stands from a place on: nothing past the end.
+pub fn rest_from(s: &[u8], at: usize) -> &[u8]
+    ensures { λ r. ⌜ now r ≡ drop at (now (s .entry)) ⌝ }
+{
+    if s.len() < at {
+        return &s[..0];
+    }
+    &s[at..]
 }
 
 // The first field, its blanks off.
-pub fn type_at(s: &[u8]) -> &[u8]
+fn type_at(s: &[u8]) -> &[u8]
     ensures { λ r. ⌜ now r ≡ typeAt (now (s .entry)) ⌝ }
 {
     trim(first_field(s))
@@ -53,6 +136,21 @@ pub fn is_exactly(s: &[u8], b: u8) -> bool
 {
     let t = type_at(s);
     if t.len() == 1 { t[0] == b } else { false }
+}
+
+// At least n fields. Nothing behind the comma that opens the n-th is looked at.
+pub fn has_fields(s: &[u8], n: usize) -> bool
+    ensures { λ r. ⌜ r ≡ leb n (length (fields (now (s .entry)))) ⌝ }
+{
+    let mut wanted = n;
+    let mut i = 0;
+    while i < s.len() && 1 < wanted {
+        if s[i] == b',' {
+            wanted -= 1;
+        }
+        i += 1;
+    }
+    wanted <= 1
 }
 
 // s without its first byte, if it has one.

@@ -10,7 +10,7 @@ pub enum Reading {
     Clear,
     // `R`: the reference point from here on.
     Reference(LabelPosition),
-    // An element; its data is counted from the line's first byte.
+    // An element; its data's place is counted from where its reader was told to count.
     Element(LabelElement),
     // `P`: what is pending is printed.
     Print,

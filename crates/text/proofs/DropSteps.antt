@@ -8,7 +8,7 @@ use native.Mathlib.Nat.{not-suc-le-zero}
 use native.Mathlib.Numerals.{add-one, sub-one}
 use native.Mathlib.Omega.{arith}
 use lib.ListN.{length, getD, take, drop, length-drop, drop-of-length-le}
-use lib.Seq.{drop-cons, take-suc, take-all}
+use lib.Seq.{drop-cons, take-suc, take-all, take-length}
 use Rattle.text.specs.Blank.{dropWhile, dropEnd}
 
 -- what is left of s at i, as `&s[i..]` gives it
@@ -18,6 +18,9 @@ rest s i = take-all (length s - i) (drop i s) (rw length-drop (omega arith))
 pub rev-take : (s : List ℕ) (n : ℕ) → 0 < n → n ≤ length s → reverse (take n s) ≡ getD s (n - 1) 0 ∷ reverse (take (n - 1) s)
 rev-take s zero p h = absurd (not-suc-le-zero p)
 rev-take s (suc j) p h = rw (sub-one, take-suc s j 0, reverse-append)
+
+pub rev-last : (s : List ℕ) → 0 < length s → reverse s ≡ getD s (length s - 1) 0 ∷ reverse (take (length s - 1) s)
+rev-last s h = ap reverse (sym (take-length s)) ∙ rev-take s (length s) h (omega arith)
 
 pub take-none : (s : List ℕ) (n : ℕ) → n ≤ 0 → take n s ≡ []
 take-none s zero h = refl

@@ -15,6 +15,7 @@ pub mod IntLaws
 pub mod TwosLaws
 pub mod NanLaws
 pub mod NumberLaws
+pub mod PlainLaws
 pub mod BlankSteps
 pub mod Utf8Steps
 pub mod Cases

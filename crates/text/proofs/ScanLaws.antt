@@ -1,9 +1,10 @@
--- Laws of a search by places: stretches without b are joined, and the first b by places is the one that `indexOf` gives.
+-- Laws of a search by places: stretches without b are joined, a minimum over sixty-four places is the first b there (`Least`),
+-- and the first b by places is the one that `indexOf` gives.
 -- Assumes nothing.
-use mathlib.Core.Path.{_≡_, ap, subst}
+use mathlib.Core.Path.{_≡_, sym, ap, subst}
 use mathlib.Core.List.{List, [], _∷_}
-use mathlib.Core.Logic.{⊎-elim}
-use Prim.Native.Nat.{ℕ, zero, suc, _+_, _-_, _≤_, _<_}
+use mathlib.Core.Logic.{_⊎_, inl, inr, ⊎-elim}
+use Prim.Native.Nat.{ℕ, zero, suc, _+_, _-_, _≤_, _<_, min}
 use native.Mathlib.Nat.{eq-zero-or-pos}
 use native.Mathlib.Omega.{arith}
 use lib.ListN.{length, getD}
@@ -21,13 +22,32 @@ none-join {i = i} m n = record { none = λ k p q e. ⊎-elim (λ z. n .none k (o
 pub none-step : {a : List ℕ} {b lo j : ℕ} (i : ℕ) → None a b lo i → (getD a i 0 ≡ b → ⊥) → j ≡ i + 1 → None a b lo j
 none-step {a} {b} i n h l = none-join n (record { none = λ k p q e. h (subst (λ (x : ℕ). getD a x 0 ≡ b) (let s : k ≡ i = omega arith in s) e) })
 
-pub first-join : {a : List ℕ} {b from i r : ℕ} → from ≤ i → None a b from i → First a b i r → First a b from r
+pub first-join : {a : List ℕ} {b lo i hi r : ℕ} → lo ≤ i → None a b lo i → First a b i hi r → First a b lo hi r
 first-join h n f = let l = f .low in record { low = omega arith; high = f .high; before = none-join n (f .before); found = f .found }
+
+-- k is the first b of the i bytes from `from` on, counted from there, or 64
+abbrev pub Least : (a : List ℕ) (b from i k : ℕ) → Type 0
+Least a b from i k = ((k ≡ 64) × None a b from (from + i)) ⊎ ((k < i) × First a b from (from + 64) (from + k))
+
+-- one byte more: c is its place where it is b, and 64 where it is not
+pub least-step : {a : List ℕ} {b from i k c m : ℕ} → i < 64 → Least a b from i k → m ≡ min c k
+    → ((getD a (from + i) 0 ≡ b) × (c ≡ i)) ⊎ ((getD a (from + i) 0 ≡ b → ⊥) × (c ≡ 64)) → Least a b from (i + 1) m
+least-step {a} {b} {from} {i} {k} {c} {m} h (inl (e, n)) g (inl (t, f)) =
+    subst (Least a b from (i + 1)) (let z : i ≡ m = omega arith in z) (inr (omega arith, record { low = omega arith; high = omega arith; before = n; found = λ l. t }))
+least-step {from = from} {i} h (inl (e, n)) g (inr (t, f)) = inl (omega arith, none-step (from + i) n t (omega arith))
+least-step {a} {b} {from} {i} {k} {c} {m} h (inr (l, n)) g w =
+    subst (Least a b from (i + 1)) (let z : k ≡ m = ⊎-elim (λ v. omega arith) (λ v. omega arith) w in z) (inr (omega arith, n))
+
+-- after sixty-four it is the first
+pub least-first : {a : List ℕ} {b from k : ℕ} → Least a b from 64 k → First a b from (from + 64) (from + k)
+least-first {a} {b} {from} {k} (inl (e, n)) =
+    subst (λ (x : ℕ). First a b from (from + 64) (from + x)) (sym e) (record { low = omega arith; high = omega arith; before = n; found = λ l. absurd (omega arith) })
+least-first (inr (l, n)) = n
 
 index-is : (b : ℕ) (a : List ℕ) (r : ℕ) → r ≤ length a → ((k : ℕ) → k < r → getD a k 0 ≡ b → ⊥) → (r < length a → getD a r 0 ≡ b) → r ≡ indexOf b a
 index-is b [] r h n f = omega arith
 index-is b (x ∷ a) zero h n f = simp (eq-eqb x b (f (omega arith)))
 index-is b (x ∷ a) (suc r) h n f = simp (ne-eqb x b (n 0 (omega arith))) (ap suc (index-is b a r (omega arith) (λ k l. n (suc k) (omega arith)) (λ l. f (omega arith))))
 
-pub first-found : {a : List ℕ} {b r : ℕ} → First a b 0 r → Found b a r
+pub first-found : {a : List ℕ} {b r : ℕ} → First a b 0 (length a) r → Found b a r
 first-found {a} {b} {r} f = record { is = index-is b a r (f .high) (λ k l. f .before .none k (omega arith) l) (f .found); fits = f .high }

@@ -2,15 +2,15 @@
 use mathlib.Core.Path.{_≡_}
 use mathlib.Core.List.{List}
 use Prim.Native.Nat.{ℕ, _≤_, _<_}
-use lib.ListN.{length, getD}
+use lib.ListN.{getD}
 
 -- no b from lo up to, not including, hi
 pub record None (a : List ℕ) (b lo hi : ℕ) : Type 0 where
   pub none : (k : ℕ) → lo ≤ k → k < hi → getD a k 0 ≡ b → ⊥
 
--- r is the first b from `from` on, or the length
-pub record First (a : List ℕ) (b from r : ℕ) : Type 0 where
-  pub low : from ≤ r
-  pub high : r ≤ length a
-  pub before : None a b from r
-  pub found : r < length a → getD a r 0 ≡ b
+-- r is the first b from lo up to hi, or hi
+pub record First (a : List ℕ) (b lo hi r : ℕ) : Type 0 where
+  pub low : lo ≤ r
+  pub high : r ≤ hi
+  pub before : None a b lo r
+  pub found : r < hi → getD a r 0 ≡ b

@@ -1,29 +1,28 @@
-// Finding a byte, sixty-four at a time: a block's hits are counted with no early exit, so that the compiler can use wide registers.
+// Finding a byte, sixty-four at a time: a window is looked through with no early exit, so that the compiler can use wide registers.
 ghost use mathlib.Core.Path.{_≡_};
 ghost use Prim.Native.Nat.{_+_, _≤_};
 ghost use lib.ListN.{length};
 ghost use Rattle.text.specs.Fields.{Found};
-ghost use Rattle.text.specs.Scan.{None, First};
+ghost use Rattle.text.specs.Scan.{First};
 
-// 0 only where none of the sixty-four bytes from `from` on is b.
-fn block(a: &[u8], from: usize, b: u8) -> u8
+// The first b among the sixty-four bytes from `from` on, counted from there, or 64: a minimum over all of them.
+fn window(a: &[u8], from: usize, b: u8) -> u8
     requires { ⌜ from + 64 ≤ length (now a) ⌝ }
-    ensures { λ r. ⌜ (r ≡ 0 → None (now (a .entry)) b from (from + 64)) ⌝ }
+    ensures { λ r. ⌜ First (now (a .entry)) b from (from + 64) (from + r) ⌝ }
 {
-    let mut n: u8 = 0;
-    let mut i: usize = 0;
+    let mut k: u8 = 64;
+    let mut i: u8 = 0;
     while i < 64 {
-        if a[from + i] == b {
-            n += 1;
-        }
+        let c: u8 = if a[from + (i as usize)] == b { i } else { 64 };
+        k = if c < k { c } else { k };
         i += 1;
     }
-    n
+    k
 }
 
 fn by_one(a: &[u8], from: usize, b: u8) -> usize
     requires { ⌜ from ≤ length (now a) ⌝ }
-    ensures { λ r. ⌜ First (now (a .entry)) b from r ⌝ }
+    ensures { λ r. ⌜ First (now (a .entry)) b from (length (now (a .entry))) r ⌝ }
 {
     let mut i = from;
     while i < a.len() {
@@ -35,14 +34,15 @@ fn by_one(a: &[u8], from: usize, b: u8) -> usize
     i
 }
 
-// The first b at or after 0, by places.
+// The first b, by places.
 fn scan(a: &[u8], b: u8) -> usize
-    ensures { λ r. ⌜ First (now (a .entry)) b 0 r ⌝ }
+    ensures { λ r. ⌜ First (now (a .entry)) b 0 (length (now (a .entry))) r ⌝ }
 {
     let mut i = 0;
     while 64 <= a.len() - i {
-        if block(a, i, b) != 0 {
-            return by_one(a, i, b);
+        let k = window(a, i, b);
+        if k < 64 {
+            return i + (k as usize);
         }
         i += 64;
     }

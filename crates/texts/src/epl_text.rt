@@ -1,5 +1,6 @@
 // `A`: text. Fields: x, y, rotation, font, horizontal multiplier, vertical multiplier, reverse.
 ghost use mathlib.Core.Path.{_≡_};
+ghost use lib.ListN.{drop};
 ghost use Rattle.texts.specs.Text.{scaleAt, textFields, textElement, textReading};
 use crate::fonts::Scaled;
 use crate::fonts::font_info;
@@ -8,16 +9,15 @@ use elements::label_element::LabelElement;
 use elements::label_position::LabelPosition;
 use elements::refusal::Refusal;
 use elements::text_field::TextField;
-use parameters::params::after_two;
+use parameters::params::has_fields;
 use parameters::params::is_exactly;
-use parameters::params::number_at;
-use parameters::params::point_at;
-use parameters::params::size_at;
+use parameters::params::number_from;
+use parameters::params::point_from;
+use parameters::params::rest_from;
+use parameters::params::size_from;
 use parameters::position::Placed;
 use parameters::position::place;
 use parameters::reading::Reading;
-use text::fields::after_field;
-use text::fields::field_count;
 
 pub struct Scale {
     pub h_mult: i32,
@@ -32,17 +32,16 @@ pub struct TextFields {
     pub scale: Scale,
 }
 
-// The fifth field on: multipliers and reverse.
-pub fn scale_at(s: &[u8]) -> Scale
-    ensures { λ r. ⌜ r ≡ scaleAt (now (s .entry)) ⌝ }
+// The fifth field on, from its place: multipliers and reverse.
+fn scale_from(s: &[u8], at: usize) -> Scale
+    ensures { λ r. ⌜ r ≡ scaleAt (drop at (now (s .entry))) ⌝ }
 {
-    let h_mult = size_at(s, 1);
-    let t = after_field(s);
-    let v_mult = size_at(t, 1);
-    let reverse = is_exactly(after_field(t), b'R');
+    let h = size_from(s, at, 1);
+    let v = size_from(s, h.next, 1);
+    let reverse = is_exactly(rest_from(s, v.next), b'R');
     Scale {
-        h_mult,
-        v_mult,
+        h_mult: h.value,
+        v_mult: v.value,
         reverse,
     }
 }
@@ -50,16 +49,15 @@ pub fn scale_at(s: &[u8]) -> Scale
 pub fn text_fields(s: &[u8]) -> TextFields
     ensures { λ r. ⌜ r ≡ textFields (now (s .entry)) ⌝ }
 {
-    let at = point_at(s);
-    let t = after_two(s);
-    let rotation = number_at(t, 0);
-    let u = after_field(t);
-    let font = number_at(u, 1);
-    let scale = scale_at(after_field(u));
+    let p = point_from(s, 0);
+    let at = p.point;
+    let rotation = number_from(s, p.next, 0);
+    let font = number_from(s, rotation.next, 1);
+    let scale = scale_from(s, font.next);
     TextFields {
         at,
-        rotation,
-        font,
+        rotation: rotation.value,
+        font: font.value,
         scale,
     }
 }
@@ -88,7 +86,7 @@ pub fn text_element(f: TextFields, span: DataSpan, reference: LabelPosition) -> 
 pub fn parse_epl_text(params: &[u8], span: DataSpan, reference: LabelPosition) -> Reading
     ensures { λ r. ⌜ r ≡ textReading (now (params .entry)) span reference ⌝ }
 {
-    if field_count(params) < 7 {
+    if !has_fields(params, 7) {
         return Reading::Refused(Refusal::TextFields);
     }
     text_element(text_fields(params), span, reference)

@@ -1,7 +1,7 @@
 -- What a unit's reader owes, from the laws of the grammar. Assumes nothing.
-use mathlib.Core.Path.{_≡_, refl, sym, ap, _∙_}
+use mathlib.Core.Path.{_≡_, refl, ap, _∙_}
 use mathlib.Core.List.{List, [], _∷_}
-use Prim.Native.Nat.{ℕ, _+_, _<_, _≤_}
+use Prim.Native.Nat.{ℕ, _≤_}
 use native.Mathlib.Omega.{arith}
 use lib.ListN.{length}
 use Rattle.text.specs.Blank.{trim}
@@ -9,11 +9,13 @@ use Rattle.text.proofs.BoolLaws.{test}
 use Rattle.elements.specs.declared.data_span.DataSpan.{DataSpan}
 use Rattle.elements.specs.declared.label_element.LabelElement.{LabelElement}
 use Rattle.elements.specs.declared.label_position.LabelPosition.{LabelPosition}
-use Rattle.elements.specs.Spans.{spans, AllIn, In, AllNear, Near}
+use Rattle.elements.specs.Spans.{spans, AllIn, In}
 use Rattle.parameters.specs.declared.reading.Reading.{Reading}
+use Rattle.parameters.specs.declared.reading.Reading.the-variants as reading
+use Rattle.parameters.specs.Reading.{laterReading}
 use Rattle.commands.specs.Line.{readLine}
 use Rattle.whole.specs.Language.{yield}
-use Rattle.whole.specs.Reading.{nothing, fault, did, readingOf}
+use Rattle.whole.specs.Reading.{nothing, fault, did, readingOf, moved}
 use Rattle.grammar.specs.WellFormed.{wellFormed}
 use Rattle.grammar.specs.Units.{EplUnit, block, line, last, bytes}
 use Rattle.grammar.specs.Epl.{actOf, acts, epl}
@@ -29,19 +31,23 @@ reading-none [] r h = line-none r
 reading-none (b ∷ t) r h = absurd (omega arith)
 
 -- a line that is not well formed is refused by its reader with the number of its fault
-pub line-turn : (size : ℕ) (r : LabelPosition) (t : List ℕ) → did size (actOf r (readLine t r)) ≡ lineTurn size r t
+line-turn : (size : ℕ) (r : LabelPosition) (t : List ℕ) → did size (actOf r (readLine t r)) ≡ lineTurn size r t
 line-turn size r t =
     test (wellFormed (trim t))
     (λ e. simp e)
     (λ e. let n = ill-formed t r e in ap (λ (q : Reading). did size (actOf r q)) (n .1) ∙ ap fault (n .2) ∙ (simp e))
 
-all-near : (k n : ℕ) (ds : List DataSpan) → k + n < 18446744073709551616 → AllIn n ds → AllNear k ds
-all-near k n [] h a = tt
-all-near k n (d ∷ ds) h a = (omega arith, all-near k n ds h (a .1))
+-- what a line does where it stands at a place
+did-later : (at size : ℕ) (r : LabelPosition) (x : Reading) → did size (actOf r (laterReading at x)) ≡ moved epl at (did size (actOf r x))
+did-later at size r reading.Nothing = refl
+did-later at size r reading.Clear = refl
+did-later at size r (reading.Reference p) = refl
+did-later at size r (reading.Element e) = refl
+did-later at size r reading.Print = refl
+did-later at size r (reading.Refused n) = refl
 
--- data that lies in a unit of the input can be counted from the input's first byte
-pub near-in : (k n : ℕ) (e : LabelElement) → k + n < 18446744073709551616 → In n e → Near k e
-near-in k n e h i = all-near k n (spans e) h i
+pub line-moved : (at size : ℕ) (r : LabelPosition) (t : List ℕ) → did size (actOf r (laterReading at (readLine t r))) ≡ moved epl at (lineTurn size r t)
+line-moved at size r t = did-later at size r (readLine t r) ∙ ap (moved epl at) (line-turn size r t)
 
 all-in-more : (n m : ℕ) (ds : List DataSpan) → n ≤ m → AllIn n ds → AllIn m ds
 all-in-more n m [] h a = tt

@@ -1,7 +1,6 @@
 // The step that a host calls. Nothing is asked of the state that it hands in.
 ghost use mathlib.Core.Path.{_≡_};
-ghost use Prim.Native.Nat.{_+_, _<_, suc};
-ghost use Rattle.whole.specs.Step.{step, printing, element, ended, state};
+ghost use Rattle.whole.specs.Step.{step, printing, ended, state};
 ghost use Rattle.grammar.specs.Epl.{epl};
 ghost use Rattle.walk.specs.Steps.{stateOf, answerOf};
 use crate::state::Printed;
@@ -9,10 +8,8 @@ use crate::state::Step;
 use crate::state::WalkState;
 use crate::unit::UnitReading;
 use crate::unit::read_unit;
-use elements::label_element::LabelElement;
 use elements::label_position::LabelPosition;
 use elements::refusal::Refusal;
-use elements::shift::shift;
 
 // "inputs up to 16,777,216 bytes".
 pub const INPUT_MAX: usize = 16777216;
@@ -50,7 +47,7 @@ pub fn step(input: &[u8], st: WalkState) -> Step
     }
     let mut reference = st.reference;
     loop {
-        match read_unit(&input[at..], reference) {
+        match read_unit(&input[at..], at, reference) {
             UnitReading::Nothing => {
                 return at_end(at, reference, n);
             }
@@ -70,7 +67,7 @@ pub fn step(input: &[u8], st: WalkState) -> Step
             }
             UnitReading::Element(size, e) => {
                 return Step::Element(
-                    shift(e, at),
+                    e,
                     WalkState {
                         place: at + size,
                         reference,

@@ -1,8 +1,8 @@
 // One unit: what stands first, and what it does at a reference. `GW` is looked for first, so that no LF is searched behind it.
 ghost use mathlib.Core.Path.{_≡_};
-ghost use Prim.Native.Nat.{_<_};
+ghost use Prim.Native.Nat.{_+_, _<_};
 ghost use lib.ListN.{length};
-ghost use Rattle.whole.specs.Reading.{did, readingOf};
+ghost use Rattle.whole.specs.Reading.{did, readingOf, moved};
 ghost use Rattle.grammar.specs.Epl.{epl, actOf};
 ghost use Rattle.grammar.specs.Turn.{sizeBy, lineTurn};
 ghost use Rattle.text.specs.Fields.{indexOf};
@@ -17,7 +17,7 @@ use graphics::gw_span::read_block;
 use parameters::reading::Reading;
 use text::scan::find;
 
-// What stands first: nothing, a fault, or a unit of that many bytes with what it does. Data is counted from the unit's first byte.
+// What stands first: nothing, a fault, or a unit of that many bytes with what it does.
 pub enum UnitReading {
     Nothing,
     Fault(Refusal),
@@ -49,24 +49,26 @@ fn line_unit(size: usize, said: Reading, reference: LabelPosition) -> UnitReadin
     }
 }
 
-// The line that stands first in rest, whatever it says.
-fn read_text_line(rest: &[u8], reference: LabelPosition) -> UnitReading
-    ensures { λ r. ⌜ unitOf r ≡ lineTurn (sizeBy (indexOf 10 (now (rest .entry))) (length (now (rest .entry)))) reference (take (indexOf 10 (now (rest .entry))) (now (rest .entry))) ⌝ }
+// The line that stands first in rest, itself at the place `at`, whatever it says.
+fn read_text_line(rest: &[u8], at: usize, reference: LabelPosition) -> UnitReading
+    requires { ⌜ at + length (now rest) < 18446744073709551616 ⌝ }
+    ensures { λ r. ⌜ unitOf r ≡ moved epl at (lineTurn (sizeBy (indexOf 10 (now (rest .entry))) (length (now (rest .entry)))) reference (take (indexOf 10 (now (rest .entry))) (now (rest .entry)))) ⌝ }
 {
     let n = find(rest, 10);
     let size = line_size(n, rest.len());
-    line_unit(size, read_line(&rest[..n], reference), reference)
+    line_unit(size, read_line(&rest[..n], at, reference), reference)
 }
 
-// The unit that stands first in rest, which goes to the end of input.
-pub fn read_unit(rest: &[u8], reference: LabelPosition) -> UnitReading
-    ensures { λ r. ⌜ unitOf r ≡ readingOf epl (now (rest .entry)) reference ⌝ }
+// The unit that stands first in rest, which goes from the place `at` to the end of input.
+pub fn read_unit(rest: &[u8], at: usize, reference: LabelPosition) -> UnitReading
+    requires { ⌜ at + length (now rest) < 18446744073709551616 ⌝ }
+    ensures { λ r. ⌜ unitOf r ≡ moved epl at (readingOf epl (now (rest .entry)) reference) ⌝ }
 {
     if rest.len() == 0 {
         return UnitReading::Nothing;
     }
-    match read_block(rest, reference) {
-        Block::Nothing => read_text_line(rest, reference),
+    match read_block(rest, at, reference) {
+        Block::Nothing => read_text_line(rest, at, reference),
         Block::Refused(n) => UnitReading::Fault(n),
         Block::Element(size, e) => UnitReading::Element(size, e),
     }

@@ -1,7 +1,6 @@
 -- A step as code takes it: the tests before its loop, and one turn of the loop, where the reading of what stands at a place decides. Assumes nothing.
 use mathlib.Core.Path.{_≡_, refl, sym, ap, subst, _∙_}
-use mathlib.Core.Bool.{Bool, _||_}
-use mathlib.Core.List.{List, [], _∷_, _++_}
+use mathlib.Core.List.{List}
 use Prim.Native.Nat.{ℕ, zero, suc, _+_, _-_, _<_, _≤_}
 use native.Mathlib.Omega.{arith}
 use lib.ListN.{length, length-append, length-drop, take, drop}
@@ -10,19 +9,19 @@ use borrow.Author.Tests.{lt-ltb, le-ltb}
 use Rattle.whole.specs.Language.{First, none, bad, unit, Act, keep, clear, yield, print, outside, Language}
 use Rattle.whole.specs.Division.{Reads}
 use Rattle.whole.specs.Step.{State, state, Answer, element, cleared, printed, ended, refused, handing, printing, onAct, onFirst, answer, step, longest}
-use Rattle.whole.specs.Reading.{Reading, nothing, fault, passes, clears-to, gives, asks-print, did, reading, readingOf}
+use Rattle.whole.specs.Reading.{Reading, nothing, fault, passes, clears-to, gives, asks-print, did, reading, readingOf, moved}
 use Rattle.whole.proofs.StepLaws.{answer-first}
 
 module _ (L : Language) where
-  open Language L using (U, R, E, P, bytes, shifted, closing)
+  open Language L using (U, R, E, P, bytes, closing)
 
-  -- what the loop makes of a reading, g being the state that was given: an answer, or the walk from what follows
+  -- what the loop makes of a reading at its place, g being the state that was given: an answer, or the walk from what follows
   abbrev pub onReading : State R → List ℕ → ℕ → R → ℕ → Reading R E P → Answer R E P
   onReading g rest at r n nothing = printing L closing (ended (state at r 0)) at r n
   onReading g rest at r n (fault k) = refused k at g
   onReading g rest at r n (passes size v) = handing g (answer L (drop size rest) (at + size) v n)
   onReading g rest at r n (clears-to size v) = cleared (state (at + size) v 0)
-  onReading g rest at r n (gives size e) = element (shifted at e) (state (at + size) r (suc n))
+  onReading g rest at r n (gives size e) = element e (state (at + size) r (suc n))
   onReading g rest at r n (asks-print size q) = printing L q (handing g (answer L (drop size rest) (at + size) r n)) (at + size) r n
 
   handing-printing : (g : State R) (q : P) (a : Answer R E P) (at : ℕ) (r : R) (n : ℕ) → handing g (printing L q a at r n) ≡ printing L q (handing g a) at r n
@@ -36,7 +35,7 @@ module _ (L : Language) where
   handing-end g at r (suc n) = refl
 
   turn-act : (g : State R) (rest rest′ : List ℕ) (at : ℕ) (r : R) (n : ℕ) (u : U) (a : Act R E P) → drop (length (bytes u)) rest ≡ rest′
-      → handing g (onAct L (λ at′ r′. answer L rest′ at′ r′ n) a u at r n) ≡ onReading g rest at r n (did (length (bytes u)) a)
+      → handing g (onAct L (λ at′ r′. answer L rest′ at′ r′ n) a u at r n) ≡ onReading g rest at r n (moved L at (did (length (bytes u)) a))
   unfolding handing
   turn-act g rest rest′ at r n u (keep v) e = ap (λ (q : List ℕ). handing g (answer L q (at + length (bytes u)) v n)) (sym e)
   turn-act g rest rest′ at r n u (clear v) e = refl
@@ -46,57 +45,56 @@ module _ (L : Language) where
       ∙ ap (λ (t : List ℕ). printing L q (handing g (answer L t (at + length (bytes u)) r n)) (at + length (bytes u)) r n) (sym e)
   turn-act g rest rest′ at r n u (outside k) e = refl
 
+  -- a unit lies in the m bytes that it was read from
+  abbrev pub Fits : ℕ → Reading R E P → Type 0
+  Fits m nothing = Unit
+  Fits m (fault k) = Unit
+  Fits m (passes size v) = (0 < size) × (size ≤ m)
+  Fits m (clears-to size v) = (0 < size) × (size ≤ m)
+  Fits m (gives size e) = (0 < size) × (size ≤ m)
+  Fits m (asks-print size q) = (0 < size) × (size ≤ m)
+
+  fits-act : (m at size : ℕ) (a : Act R E P) → (0 < size) × (size ≤ m) → Fits m (moved L at (did size a))
+  fits-act m at size (keep v) h = h
+  fits-act m at size (clear v) h = h
+  fits-act m at size (yield d) h = h
+  fits-act m at size (print q) h = h
+  fits-act m at size (outside j) h = tt
+
 module _ (L : Language) (reads : Reads L) where
   open Language L using (U, R, E, P, bytes, first, act)
 
-  turn : (g : State R) (rest : List ℕ) (at : ℕ) (r : R) (n : ℕ) → handing g (answer L rest at r n) ≡ onReading L g rest at r n (readingOf L rest r)
+  turn : (g : State R) (rest : List ℕ) (at : ℕ) (r : R) (n : ℕ) → handing g (answer L rest at r n) ≡ onReading L g rest at r n (moved L at (readingOf L rest r))
   unfolding handing
   turn g rest at r n = ap (handing g) (answer-first L reads rest at r n) ∙ go (first rest) refl
     where
-      go : (o : First U) → first rest ≡ o → handing g (onFirst L (λ rest′ at′ r′. answer L rest′ at′ r′ n) o at r n) ≡ onReading L g rest at r n (reading L r o)
+      go : (o : First U) → first rest ≡ o → handing g (onFirst L (λ rest′ at′ r′. answer L rest′ at′ r′ n) o at r n) ≡ onReading L g rest at r n (moved L at (reading L r o))
       go none e = handing-end L g at r n
       go (bad k) e = refl
       go (unit u rest′) e =
           let w = reads .sound rest u rest′ e in
           turn-act L g rest rest′ at r n u (act r u) (ap (drop (length (bytes u))) (w .0) ∙ drop-append-seam (bytes u) rest′)
 
-  -- a reading lies in what it was read from, and its element in the unit
-  abbrev pub Fits : (ℕ → E → Type 0) → ℕ → Reading R E P → Type 0
-  Fits In m nothing = Unit
-  Fits In m (fault k) = Unit
-  Fits In m (passes size v) = (0 < size) × (size ≤ m)
-  Fits In m (clears-to size v) = (0 < size) × (size ≤ m)
-  Fits In m (gives size e) = (0 < size) × (size ≤ m) × In size e
-  Fits In m (asks-print size q) = (0 < size) × (size ≤ m)
-
-  module _ (In : ℕ → E → Type 0) (inside : (r : R) (u : U) (e : E) → act r u ≡ yield e → In (length (bytes u)) e) where
-    fits-act : (m : ℕ) (r : R) (u : U) (a : Act R E P) → act r u ≡ a → 0 < length (bytes u) → length (bytes u) ≤ m → Fits In m (did (length (bytes u)) a)
-    fits-act m r u (keep v) e h k = (h, k)
-    fits-act m r u (clear v) e h k = (h, k)
-    fits-act m r u (yield d) e h k = (h, k, inside r u d e)
-    fits-act m r u (print q) e h k = (h, k)
-    fits-act m r u (outside j) e h k = tt
-
-    fits : (rest : List ℕ) (r : R) → Fits In (length rest) (readingOf L rest r)
-    fits rest r = go (first rest) refl
-      where
-        go : (o : First U) → first rest ≡ o → Fits In (length rest) (reading L r o)
-        go none e = tt
-        go (bad k) e = tt
-        go (unit u rest′) e =
-            let w = reads .sound rest u rest′ e in
-            fits-act (length rest) r u (act r u) refl (w .2) (omega (arith, ap length (w .0), length-append (bytes u) rest′))
+  fits : (rest : List ℕ) (at : ℕ) (r : R) → Fits L (length rest) (moved L at (readingOf L rest r))
+  fits rest at r = go (first rest) refl
+    where
+      go : (o : First U) → first rest ≡ o → Fits L (length rest) (moved L at (reading L r o))
+      go none e = tt
+      go (bad k) e = tt
+      go (unit u rest′) e =
+          let w = reads .sound rest u rest′ e in
+          fits-act L (length rest) at (length (bytes u)) (act r u) (w .2, omega (arith, ap length (w .0), length-append (bytes u) rest′))
 
   -- ---- as a loop has them: q is the reading of what stands from at
-  module _ (s : List ℕ) (at : ℕ) (r : R) (q : Reading R E P) (e : q ≡ readingOf L (take (length s - at) (drop at s)) r) where
-    here : q ≡ readingOf L (drop at s) r
-    here = e ∙ ap (λ (t : List ℕ). readingOf L t r) (take-all (length s - at) (drop at s) (omega (arith, length-drop at s)))
+  module _ (s : List ℕ) (at : ℕ) (r : R) (q : Reading R E P) (e : q ≡ moved L at (readingOf L (take (length s - at) (drop at s)) r)) where
+    here : q ≡ moved L at (readingOf L (drop at s) r)
+    here = e ∙ ap (λ (t : List ℕ). moved L at (readingOf L t r)) (take-all (length s - at) (drop at s) (omega (arith, length-drop at s)))
 
     pub turn-at : (g : State R) (n : ℕ) → handing g (answer L (drop at s) at r n) ≡ onReading L g (drop at s) at r n q
     turn-at g n = turn g (drop at s) at r n ∙ ap (onReading L g (drop at s) at r n) (sym here)
 
-    pub fits-at : (In : ℕ → E → Type 0) → ((v : R) (u : U) (x : E) → act v u ≡ yield x → In (length (bytes u)) x) → Fits In (length s - at) q
-    fits-at In inside = subst (λ (z : Reading R E P). Fits In (length s - at) z) (sym here) (subst (λ (m : ℕ). Fits In m (readingOf L (drop at s) r)) (length-drop at s) (fits In inside (drop at s) r))
+    pub fits-at : Fits L (length s - at) q
+    fits-at = subst (λ (z : Reading R E P). Fits L (length s - at) z) (sym here) (subst (λ (m : ℕ). Fits L m (moved L at (readingOf L (drop at s) r))) (length-drop at s) (fits (drop at s) at r))
 
 module _ (L : Language) where
   open Language L using (R, E, P)

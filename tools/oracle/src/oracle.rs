@@ -54,6 +54,11 @@ pub fn listing(input: &[u8]) -> Answer {
     }
 }
 
+/// What a host that wants labels calls, for benchmarks: how many there are.
+pub fn parse(input: &[u8]) -> Result<usize, String> {
+    epl::parse(input).map(|labels| labels.len())
+}
+
 /// The text that the normaliser writes for an input. It refuses nothing and decodes nothing.
 pub fn normalised(input: &[u8]) -> Vec<u8> {
     epl::format_epl(input)

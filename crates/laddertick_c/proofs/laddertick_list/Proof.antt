@@ -1,8 +1,5 @@
 -- `laddertick_c::laddertick_list` meets its contract. Assumes nothing.
-use mathlib.Core.Path.{sym, ap, _∙_}
-use Rattle.frames.specs.Listing.{givenOf, outcomeOf}
-use Rattle.frames.proofs.PrintingLaws.{lists-long}
-use Rattle.laddertick_c.proofs.FlatLaws.{flat-length, flat-number}
+use mathlib.Core.Path.{_∙_}
 use borrow.Author.Needs.{needs}
 use Rattle.laddertick_c.proofs.laddertick_list.Statement.{statement}
 use Rattle.laddertick_c.proofs.laddertick_list.Tie as tie
@@ -10,52 +7,14 @@ use Rattle.laddertick_c.proofs.laddertick_list.Tie as tie
 list-requires : tie.Need-list-requires
 list-requires c κs = search needs
 
-enum-known-n : tie.Need-enum-known-n
-enum-known-n c = search needs
-
-enum-known-k : tie.Need-enum-known-k
-enum-known-k c = search needs
-
-number-requires : tie.Need-number-requires
-number-requires c κs = search needs
-
-cast-t11 : tie.Need-cast-t11
-cast-t11 c = search needs
+of-listed-requires : tie.Need-of-listed-requires
+of-listed-requires c κs = search needs
 
 same-length : tie.Need-same-length
-same-length c =
-    let l = c .before .before .before .before .before in
-    let a = l .before .before .before .before .args in
-    lists-long (outcomeOf (a .input .now)) _ (a .out .now) (l .list .result) (l .list .ensures)
+same-length c = search needs
 
 returns : tie.Need-returns
-returns c =
-    let l = c .before .before .before .before .before in
-    let w = l .list .ensures in
-    record { answer = flat-length (c .before .n .given .0 .0) _ (ap givenOf (sym (c .before .n .given .1)) ∙ w .answer); buffer = w .buffer }
-
-same-length-2 : tie.Need-same-length-2
-same-length-2 c =
-    let l = c .before .before .before .before .before .before in
-    let a = l .before .before .before .before .args in
-    lists-long (outcomeOf (a .input .now)) _ (a .out .now) (l .list .result) (l .list .ensures)
-
-returns-2 : tie.Need-returns-2
-returns-2 c =
-    let k = c .before .before .k in
-    let w = c .before .before .before .before .before .before .list .ensures in
-    record { answer = flat-number (k .given .0 .0) (k .given .0 .1 .0) (c .number .result) _ (ap givenOf (sym (k .given .1)) ∙ w .answer) (c .number .ensures); buffer = w .buffer }
+returns c = let w = c .before .before .before .list .ensures in record { answer = c .of-listed .ensures ∙ w .answer; buffer = w .buffer }
 
 pub laddertick-list-spec : {M : Type 1} → statement M
-laddertick-list-spec =
-    tie.close
-    (tie.spec
-    list-requires
-    enum-known-n
-    enum-known-k
-    number-requires
-    cast-t11
-    same-length
-    returns
-    same-length-2
-    returns-2)
+laddertick-list-spec = tie.close (tie.spec list-requires of-listed-requires same-length returns)

@@ -1,52 +1,57 @@
 -- `barcodes::barcode::barcode_fields` meets its contract, field by field.
 -- Assumes nothing.
+use mathlib.Core.Path.{refl, ap, _∙_}
 use Rattle.text.proofs.IntLaws.{back32}
-use Rattle.barcodes.specs.Barcode.{barcodeFields}
+use Rattle.parameters.proofs.ParamsLaws.{type-upto, after-upto}
+use Rattle.parameters.proofs.PlaceLaws.{number-value, number-next, point-value, point-next}
+use Rattle.barcodes.specs.Barcode.{symbologyOf, barsAt, barcodeFields}
 use borrow.Author.Needs.{needs}
 use Rattle.barcodes.proofs.barcode.barcode_fields.Statement.{statement}
 use Rattle.barcodes.proofs.barcode.barcode_fields.Tie as tie
 
-point-at-requires : tie.Need-point-at-requires
-point-at-requires c κs = search needs
+point-from-requires : tie.Need-point-from-requires
+point-from-requires c κs = search needs
 
-after-two-requires : tie.Need-after-two-requires
-after-two-requires c κs = search needs
+number-from-requires : tie.Need-number-from-requires
+number-from-requires c κs = search needs
 
-number-at-requires : tie.Need-number-at-requires
-number-at-requires c κs = search needs
+rest-from-requires : tie.Need-rest-from-requires
+rest-from-requires c κs = search needs
 
-after-field-requires : tie.Need-after-field-requires
-after-field-requires c κs = search needs
+find-requires : tie.Need-find-requires
+find-requires c κs = search needs
 
-type-at-requires : tie.Need-type-at-requires
-type-at-requires c κs = search needs
+symbology-upto-requires : tie.Need-symbology-upto-requires
+symbology-upto-requires c κs = search needs
 
-symbology-of-requires : tie.Need-symbology-of-requires
-symbology-of-requires c κs = search needs
+add-bars-from : tie.Need-add-bars-from
+add-bars-from c = search needs
 
-after-field-requires-2 : tie.Need-after-field-requires-2
-after-field-requires-2 c κs = search needs
-
-bars-at-requires : tie.Need-bars-at-requires
-bars-at-requires c κs = search needs
+bars-from-requires : tie.Need-bars-from-requires
+bars-from-requires c κs = search needs
 
 returns : tie.Need-returns
 unfolding barcodeFields
 returns c =
-    let rotation = c .before .before .before .before .before .number-at in
-    rw (back32 (rotation .result) (rotation .ok))
-    (simp (c .before .before .before .before .before .before .before .point-at .ensures, rotation .ensures, c .before .before .symbology-of .ensures, c .bars-at .ensures, c .before .after-field2 .ensures, c .before .before .before .type-at .ensures, c .before .before .before .before .after-field .ensures, c .before .before .before .before .before .before .after-two .ensures))
+    let n = c .before .before .before in
+    let t = n .before .rest-from in
+    let rotation = n .before .before .number-from in
+    let p = n .before .before .before .before .point-from in
+    let at-r = point-next _ _ refl (p .ensures) in
+    let at-t = t .ensures ∙ number-next _ _ _ at-r (rotation .ensures) in
+    let comma = n .find .ensures .is in
+    rw (back32 (rotation .result .value) (c .struct-told .given .0 .1))
+    (simp (point-value _ _ refl (p .ensures), number-value _ _ _ at-r (rotation .ensures), c .before .before .symbology-upto .ensures ∙ ap symbologyOf (type-upto (t .result .now) comma), c .before .bars-from .ensures ∙ ap barsAt (after-upto (t .result .now) comma), at-t))
 
 pub barcode-fields-spec : {M : Type 1} → statement M
 barcode-fields-spec =
     tie.close
     (tie.spec
-    point-at-requires
-    after-two-requires
-    number-at-requires
-    after-field-requires
-    type-at-requires
-    symbology-of-requires
-    after-field-requires-2
-    bars-at-requires
+    point-from-requires
+    number-from-requires
+    rest-from-requires
+    find-requires
+    symbology-upto-requires
+    add-bars-from
+    bars-from-requires
     returns)

@@ -1,22 +1,18 @@
 -- `barcodes::barcode::parse_epl_barcode` meets its contract: the number of fields decides.
 -- Assumes nothing.
-use mathlib.Core.Path.{ap, _∙_}
-use native.Mathlib.Omega.{arith}
-use lib.ListN.{length}
-use borrow.Author.Tests.{lt-ltb, le-ltb}
-use Rattle.text.specs.Fields.{fields}
-use Rattle.barcodes.specs.Barcode.{barcodeAt, barcodeReading}
-use Rattle.barcodes.specs.declared.barcode.BarcodeFields.{BarcodeFields}
+use mathlib.Core.Path.{_∙_}
+use Rattle.parameters.proofs.ParamsLaws.{too-few, enough}
+use Rattle.barcodes.specs.Barcode.{barcodeReading}
 use borrow.Author.Needs.{needs}
 use Rattle.barcodes.proofs.barcode.parse_epl_barcode.Statement.{statement}
 use Rattle.barcodes.proofs.barcode.parse_epl_barcode.Tie as tie
 
-field-count-requires : tie.Need-field-count-requires
-field-count-requires c κs = search needs
+has-fields-requires : tie.Need-has-fields-requires
+has-fields-requires c κs = search needs
 
 returns : tie.Need-returns
 unfolding barcodeReading
-returns c = simp (lt-ltb (length (fields (c .before .before .before .args .params .now))) 8 (omega (arith, c .before .field-count .ensures)))
+returns c = too-few _ _ _ _ (c .before .has-fields .ensures) (c .if1 .taken)
 
 barcode-fields-requires : tie.Need-barcode-fields-requires
 barcode-fields-requires c κs = search needs
@@ -27,11 +23,10 @@ barcode-at-requires c κs = search needs
 returns-2 : tie.Need-returns-2
 unfolding barcodeReading
 returns-2 c =
-    let s = c .before .before .before .before .before .args in
-    simp (le-ltb (length (fields (s .params .now))) 8 (omega (arith, c .before .before .before .field-count .ensures)))
-    (c .barcode-at .ensures ∙ ap (λ (f : BarcodeFields). barcodeAt f (s .span) (s .reference)) (c .before .barcode-fields .ensures))
+    let e = c .before .before in
+    rw (← c .before .barcode-fields .ensures) (c .barcode-at .ensures ∙ enough _ _ _ _ (e .before .has-fields .ensures) (e .if1 .left))
 
 pub parse-epl-barcode-spec : {M : Type 1} → statement M
 parse-epl-barcode-spec =
     tie.close
-    (tie.spec field-count-requires returns barcode-fields-requires barcode-at-requires returns-2)
+    (tie.spec has-fields-requires returns barcode-fields-requires barcode-at-requires returns-2)

@@ -1,42 +1,34 @@
 -- `draws::draw::line_fields` meets its contract: each call reads the fields that follow those of the call before.
 -- Assumes nothing.
+use mathlib.Core.Path.{refl}
 use Rattle.text.proofs.IntLaws.{back32}
+use Rattle.parameters.proofs.PlaceLaws.{size-value, size-next, point-value, point-next}
 use Rattle.draws.specs.Draw.{lineFields}
 use borrow.Author.Needs.{needs}
 use Rattle.draws.proofs.draw.line_fields.Statement.{statement}
 use Rattle.draws.proofs.draw.line_fields.Tie as tie
 
-point-at-requires : tie.Need-point-at-requires
-point-at-requires c κs = search needs
+point-from-requires : tie.Need-point-from-requires
+point-from-requires c κs = search needs
 
-after-two-requires : tie.Need-after-two-requires
-after-two-requires c κs = search needs
+size-from-requires : tie.Need-size-from-requires
+size-from-requires c κs = search needs
 
-size-at-requires : tie.Need-size-at-requires
-size-at-requires c κs = search needs
-
-after-field-requires : tie.Need-after-field-requires
-after-field-requires c κs = search needs
-
-size-at-requires-2 : tie.Need-size-at-requires-2
-size-at-requires-2 c κs = search needs
+size-from-requires-2 : tie.Need-size-from-requires-2
+size-from-requires-2 c κs = search needs
 
 returns : tie.Need-returns
 unfolding lineFields
 returns c =
-    let w = c .before .before .size-at in
-    let h = c .size-at2 in
-    let t = c .before .before .before .after-two in
-    rw (back32 (w .result) (w .ok), back32 (h .result) (h .ok))
-    (simp (c .before .before .before .before .point-at .ensures, w .ensures, h .ensures, c .before .after-field .ensures, t .ensures))
+    let w = c .before .before .before in
+    let p = w .before .before .point-from in
+    let width = w .size-from in
+    let height = c .before .before .size-from2 in
+    let at-w = point-next _ _ refl (p .ensures) in
+    let at-h = size-next _ _ _ at-w (width .ensures) in
+    rw (back32 (width .result .value) (c .before .struct-told .given .0 .1), back32 (height .result .value) (c .struct-told2 .given .0 .1))
+    (simp (point-value _ _ refl (p .ensures), size-value _ _ _ at-w (width .ensures), size-value _ _ _ at-h (height .ensures)))
 
 pub line-fields-spec : {M : Type 1} → statement M
 line-fields-spec =
-    tie.close
-    (tie.spec
-    point-at-requires
-    after-two-requires
-    size-at-requires
-    after-field-requires
-    size-at-requires-2
-    returns)
+    tie.close (tie.spec point-from-requires size-from-requires size-from-requires-2 returns)

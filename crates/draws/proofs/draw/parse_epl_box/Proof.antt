@@ -1,20 +1,19 @@
 -- `draws::draw::parse_epl_box` meets its contract: the number of fields decides, and then the calls compose.
 -- Assumes nothing.
 use mathlib.Core.Path.{_∙_}
-use native.Mathlib.Omega.{arith}
 use Rattle.text.proofs.IntLaws.{back32}
+use Rattle.parameters.proofs.ParamsLaws.{too-few, enough}
 use Rattle.draws.specs.Draw.{boxReading}
-use Rattle.draws.proofs.DrawLaws.{too-few, enough}
 use borrow.Author.Needs.{needs}
 use Rattle.draws.proofs.draw.parse_epl_box.Statement.{statement}
 use Rattle.draws.proofs.draw.parse_epl_box.Tie as tie
 
-field-count-requires : tie.Need-field-count-requires
-field-count-requires c κs = search needs
+has-fields-requires : tie.Need-has-fields-requires
+has-fields-requires c κs = search needs
 
 returns : tie.Need-returns
 unfolding boxReading
-returns c = too-few (c .before .field-count .ensures) _ _ _ (omega arith)
+returns c = too-few _ _ _ _ (c .before .has-fields .ensures) (c .if1 .taken)
 
 corners-at-requires : tie.Need-corners-at-requires
 corners-at-requires c κs = search needs
@@ -28,16 +27,16 @@ boxed-requires c κs = search needs
 returns-2 : tie.Need-returns-2
 unfolding boxReading
 returns-2 c =
-    let n = c .before .before .before .before .before .field-count in
+    let e = c .before .before .before .before in
     let k = c .before .before .before .corners-at in
     rw (← k .ensures, ← c .before .before .drawn-at .ensures)
-    ((simp (back32 (k .result .thickness) (c .before .struct-told .given .1 .0 .1)) at (c .boxed .ensures)) ∙ enough (n .ensures) _ _ _ (omega arith))
+    ((simp (back32 (k .result .thickness) (c .before .struct-told .given .1 .0 .1)) at (c .boxed .ensures)) ∙ enough _ _ _ _ (e .before .has-fields .ensures) (e .if1 .left))
 
 pub parse-epl-box-spec : {M : Type 1} → statement M
 parse-epl-box-spec =
     tie.close
     (tie.spec
-    field-count-requires
+    has-fields-requires
     returns
     corners-at-requires
     drawn-at-requires

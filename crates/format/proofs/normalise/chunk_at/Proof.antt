@@ -1,55 +1,59 @@
 -- `format::normalise::chunk_at` meets its contract: a block where one stands, else a line. Assumes nothing.
-use mathlib.Core.Path.{refl, sym, _∙_}
-use Rattle.graphics.specs.declared.gw_span.Graphic.the-variants.{Nothing, Refused}
-use Rattle.format.proofs.TakesLaws.{takes-text, takes-block}
+use mathlib.Core.Path.{subst}
+use mathlib.Core.List.{List}
+use Prim.Native.Nat.{ℕ, _-_, _<_}
+use native.Mathlib.Omega.{arith}
+use lib.ListN.{length, length-drop, take, drop}
+use Rattle.text.proofs.DropSteps.{rest}
+use Rattle.grammar.specs.Normal.{chunk}
+use Rattle.format.specs.declared.normalise.Chunk.{Chunk}
+use Rattle.format.specs.Normalise.{Takes, TakesAt}
+use Rattle.format.proofs.TakesLaws.{takes-text}
 use borrow.Author.Needs.{needs}
 use Rattle.format.proofs.normalise.chunk_at.Statement.{statement}
 use Rattle.format.proofs.normalise.chunk_at.Tie as tie
 
-gw-span-requires : tie.Need-gw-span-requires
-gw-span-requires c κs = search needs
+sub-rest : tie.Need-sub-rest
+sub-rest c = search needs
 
-enum-told : tie.Need-enum-told
-enum-told c = search needs
+part-rest-start : tie.Need-part-rest-start
+part-rest-start c = search needs
+
+part-rest-end : tie.Need-part-rest-end
+part-rest-end c = search needs
+
+block-len-requires : tie.Need-block-len-requires
+block-len-requires c κs = search needs
+
+-- `&input[at..]` is what stands at that place
+here : (s : List ℕ) (at : ℕ) (c : Chunk) → at < length s → Takes (take (length s - at) (drop at s)) (chunk (take (length s - at) (drop at s))) c → TakesAt s at c
+here s at c h t =
+    let u = subst (λ (x : List ℕ). Takes x (chunk x) c) (rest s at) t in
+    record { takes = u; some = u .some; inside = omega (arith, u .inside, length-drop at s); part = u .part }
+
+returns : tie.Need-returns
+returns c =
+    let b = c .before in
+    let a = b .before .before .before .args in
+    here (a .input .now) (a .at) _ (b .before .before .before .pre) (b .block-len .ensures .block (c .if1 .taken))
 
 line-chunk-requires : tie.Need-line-chunk-requires
 line-chunk-requires c κs = search needs
 
-enum-known-n : tie.Need-enum-known-n
-enum-known-n c = search needs
-
-line-chunk-requires-2 : tie.Need-line-chunk-requires-2
-line-chunk-requires-2 c κs = search needs
-
-enum-known-g : tie.Need-enum-known-g
-enum-known-g c = search needs
-
-returns : tie.Need-returns
-returns c =
-    let g = c .before .before .before in
-    takes-text (g .before .before .args .rest .now) (c .line-chunk .result) (c .line-chunk .ensures) Nothing (sym (g .gw-span .ensures) ∙ c .before .enum-told .given .1) refl
-
 returns-2 : tie.Need-returns-2
 returns-2 c =
-    let g = c .before .before .before .before in
-    let n = c .before .before .n .given in
-    takes-text (g .before .before .args .rest .now) (c .line-chunk2 .result) (c .line-chunk2 .ensures) (Refused (n .0 .0)) (sym (g .gw-span .ensures) ∙ n .1) refl
-
-returns-3 : tie.Need-returns-3
-returns-3 c =
-    let g = c .before .before .before in
-    takes-block (g .before .before .args .rest .now) (c .before .g .given .0 .0) (sym (g .gw-span .ensures) ∙ c .before .g .given .1)
+    let b = c .before .before in
+    let a = b .before .before .before .args in
+    here (a .input .now) (a .at) (c .line-chunk .result) (b .before .before .before .pre) (takes-text _ (c .line-chunk .result) (c .line-chunk .ensures) (b .block-len .ensures .line (omega (arith, c .before .if1 .left))))
 
 pub chunk-at-spec : {M : Type 1} → statement M
 chunk-at-spec =
     tie.close
     (tie.spec
-    gw-span-requires
-    enum-told
-    line-chunk-requires
-    enum-known-n
-    line-chunk-requires-2
-    enum-known-g
+    sub-rest
+    part-rest-start
+    part-rest-end
+    block-len-requires
     returns
-    returns-2
-    returns-3)
+    line-chunk-requires
+    returns-2)

@@ -20,15 +20,6 @@ abbrev μ-loop : tie.MeasureT-loop
 loop-holds : tie.Need-loop-holds Inv-loop μ-loop
 loop-holds c = search needs
 
-sub-chunk-at : tie.Need-sub-chunk-at Inv-loop μ-loop
-sub-chunk-at c = search needs
-
-part-chunk-at-start : tie.Need-part-chunk-at-start Inv-loop μ-loop
-part-chunk-at-start c = search needs
-
-part-chunk-at-end : tie.Need-part-chunk-at-end Inv-loop μ-loop
-part-chunk-at-end c = search needs
-
 chunk-at-requires : tie.Need-chunk-at-requires Inv-loop μ-loop
 chunk-at-requires c κs = search needs
 
@@ -47,7 +38,7 @@ loop-less c = search needs
 loop-again : tie.Need-loop-again Inv-loop μ-loop
 loop-again c =
     let d = c .before .before .before in
-    let l = d .before .before .before in
+    let l = d .before .before in
     let s = l .before .before .args .input .now in
     ⊎-elim
     (λ w. omega (arith, counts-some s (l .loop .at) (d .chunk-at .result) (d .chunk-at .ensures) (w .0 .taken)))
@@ -64,9 +55,6 @@ measure-spec =
     Inv-loop
     μ-loop
     loop-holds
-    sub-chunk-at
-    part-chunk-at-start
-    part-chunk-at-end
     chunk-at-requires
     add-total
     add-total-2

@@ -1,11 +1,32 @@
--- `format::normalise::normalise` meets its contract: 14, 15, or the text is written. Assumes nothing.
+-- `format::normalise::normalise` meets its contract: 14, 15, or the text is written, which `length-normalised-le` or the measure says has room.
+-- Assumes nothing.
+use mathlib.Core.Path.{refl, ap}
+use mathlib.Core.Logic.{⊎-elim}
+use Prim.Native.Nat.{_≤_}
+use native.Mathlib.Omega.{arith}
+use lib.ListN.{length}
+use Rattle.grammar.specs.Normal.{normalised}
+use Rattle.grammar.proofs.NormalLaws.{length-normalised-le}
 use Rattle.format.proofs.NormaliseLaws.{answer-long, answer-short, answer-written}
 use borrow.Author.Needs.{needs}
 use Rattle.format.proofs.normalise.normalise.Statement.{statement}
 use Rattle.format.proofs.normalise.normalise.Tie as tie
 
+-- where the text is written it has room
+fits : (c : tie.Joined2) → let a = c .before .before .before .before .before .args in length (normalised (a .input .now)) ≤ length (a .out .now)
+fits c =
+    let r = c .before in
+    let a = r .before .before .before .before .args in
+    ⊎-elim
+    (λ w. omega (arith, w .1 .ensures, w .2 .left))
+    (λ w. omega (arith, w .left, r .room-for .ensures, length-normalised-le (a .input .now)))
+    (c .if2 .came)
+
 returns : tie.Need-returns
 returns c = let a = c .before .before .before .args in answer-long (a .input .now) (a .out .now) (c .if1 .taken)
+
+room-for-requires : tie.Need-room-for-requires
+room-for-requires c κs = search needs
 
 measure-requires : tie.Need-measure-requires
 measure-requires c κs = search needs
@@ -13,11 +34,12 @@ measure-requires c κs = search needs
 returns-2 : tie.Need-returns-2
 returns-2 c =
     let m = c .before in
-    let a = m .before .before .before .before .args in
-    answer-short (a .input .now) (a .out .now) (m .measure .result) (m .before .if1 .left) (m .measure .ensures) (c .if2 .taken)
+    let e = m .before .before .before in
+    let a = e .before .before .before .args in
+    answer-short (a .input .now) (a .out .now) (m .measure .result) (e .if1 .left) (m .measure .ensures) (c .if3 .taken)
 
 put-chunks-requires : tie.Need-put-chunks-requires
-put-chunks-requires c κs = search needs
+put-chunks-requires c κs = fits (c .before)
 
 same-length : tie.Need-same-length
 same-length c = search needs
@@ -25,11 +47,19 @@ same-length c = search needs
 returns-3 : tie.Need-returns-3
 returns-3 c =
     let p = c .before .before in
-    let m = p .before .before .before in
-    let a = m .before .before .before .before .args in
-    answer-written (a .input .now) (a .out .now) (m .measure .result) (m .before .if1 .left) (m .measure .ensures) _ (p .put-chunks .result) (p .before .before .if2 .left) (p .put-chunks .ensures)
+    let j = p .before .before in
+    let e = j .before .before in
+    let a = e .before .before .before .args in
+    answer-written (a .input .now) (a .out .now) (length (normalised (a .input .now))) (e .if1 .left) refl _ (p .put-chunks .result) (fits j) (p .put-chunks .ensures)
 
 pub normalise-spec : {M : Type 1} → statement M
 normalise-spec =
     tie.close
-    (tie.spec returns measure-requires returns-2 put-chunks-requires same-length returns-3)
+    (tie.spec
+    returns
+    room-for-requires
+    measure-requires
+    returns-2
+    put-chunks-requires
+    same-length
+    returns-3)

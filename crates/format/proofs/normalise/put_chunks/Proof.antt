@@ -21,10 +21,10 @@ abbrev μ-loop : tie.MeasureT-loop
 
 -- at a chunk: the input and the place, the part that stays and what follows it
 abbrev src : tie.After-chunk-at Inv-loop μ-loop → List ℕ
-src d = d .before .before .before .before .before .before .args .input .now
+src d = d .before .before .before .before .before .args .input .now
 
 abbrev place : tie.After-chunk-at Inv-loop μ-loop → ℕ
-place d = d .before .before .before .loop .at
+place d = d .before .before .loop .at
 
 abbrev part : tie.After-chunk-at Inv-loop μ-loop → List ℕ
 part d = stays (src d) (place d) (d .chunk-at .result)
@@ -37,15 +37,6 @@ left d = turn (src d) (place d) (d .chunk-at .result) (d .chunk-at .ensures)
 
 loop-holds : tie.Need-loop-holds Inv-loop μ-loop
 loop-holds c = (omega arith, begin _ _ _)
-
-sub-chunk-at : tie.Need-sub-chunk-at Inv-loop μ-loop
-sub-chunk-at c = search needs
-
-part-chunk-at-start : tie.Need-part-chunk-at-start Inv-loop μ-loop
-part-chunk-at-start c = search needs
-
-part-chunk-at-end : tie.Need-part-chunk-at-end Inv-loop μ-loop
-part-chunk-at-end c = search needs
 
 chunk-at-requires : tie.Need-chunk-at-requires Inv-loop μ-loop
 chunk-at-requires c κs = search needs
@@ -68,7 +59,7 @@ part-put-ended-end c = search needs
 put-ended-requires : tie.Need-put-ended-requires Inv-loop μ-loop
 put-ended-requires c κs =
     let d = c .before .before .before .before in
-    room (d .before .before .before .loop .inv .1) (ended (part d)) (more d) (omega arith) (left d)
+    room (d .before .before .loop .inv .1) (ended (part d)) (more d) (omega arith) (left d)
 
 add-at : tie.Need-add-at Inv-loop μ-loop
 add-at c = search needs
@@ -80,7 +71,7 @@ loop-again : tie.Need-loop-again Inv-loop μ-loop
 loop-again c =
     let p = c .before .before .before in
     let d = p .before .before .before .before .before in
-    (omega arith, put (d .before .before .before .loop .inv .1) (more d) (left d) (p .put-ended .ensures))
+    (omega arith, put (d .before .before .loop .inv .1) (more d) (left d) (p .put-ended .ensures))
 
 same-length : tie.Need-same-length Inv-loop μ-loop
 same-length c = c .before .loop .inv .1 .long
@@ -95,9 +86,6 @@ put-chunks-spec =
     Inv-loop
     μ-loop
     loop-holds
-    sub-chunk-at
-    part-chunk-at-start
-    part-chunk-at-end
     chunk-at-requires
     add-from
     add-end

@@ -27,17 +27,20 @@ returns : tie.Need-returns
 unfolding graphicAt
 returns c = simp (sym (answer (c .before .before)) ∙ c .enum-told .given .1)
 
-sub-t7 : tie.Need-sub-t7
-sub-t7 c = search needs
+add-t8 : tie.Need-add-t8
+add-t8 c = search needs
+
+sub-t9 : tie.Need-sub-t9
+sub-t9 c = search needs
 
 returns-2 : tie.Need-returns-2
 unfolding graphicAt
 returns-2 c =
-    let p = c .before .before .before in
+    let p = c .before .before .before .before in
     let d = p .before .before in
     rw (back32 (d .before .before .before .before .args .g .«width_bytes») (c .struct-told3 .given .1 .0 .1))
     (simp (sym (answer d) ∙ p .position .given .1))
 
 pub graphic-at-spec : {M : Type 1} → statement M
 graphic-at-spec =
-    tie.close (tie.spec place-requires enum-known-position enum-told returns sub-t7 returns-2)
+    tie.close (tie.spec place-requires enum-known-position enum-told returns add-t8 sub-t9 returns-2)

@@ -1,6 +1,7 @@
 -- `graphics::gw_span::read_block` meets its contract, arm by arm. `span-fits` gives what `graphic_at` requires.
 -- Assumes nothing.
 use mathlib.Core.Path.{sym, _∙_}
+use native.Mathlib.Omega.{arith}
 use borrow.Author.Needs.{needs}
 use Rattle.graphics.proofs.BlockLaws.{span-fits}
 use Rattle.graphics.proofs.gw_span.read_block.Statement.{statement}
@@ -21,7 +22,8 @@ enum-known-g c = search needs
 graphic-at-requires : tie.Need-graphic-at-requires
 graphic-at-requires c κs =
     let r = c .before .before .before in
-    span-fits (r .before .before .args .rest .now) (c .before .g .given .0 .0) (sym (r .gw-span .ensures) ∙ c .before .g .given .1) .start-le
+    let f = span-fits (r .before .before .args .rest .now) (c .before .g .given .0 .0) (sym (r .gw-span .ensures) ∙ c .before .g .given .1) in
+    (f .start-le, omega arith)
 
 returns : tie.Need-returns
 returns c = simp (sym (c .before .before .gw-span .ensures) ∙ c .enum-told .given .1)

@@ -1,5 +1,6 @@
 -- `text::scan::scan` meets its contract. Invariant: no b stands before i. Measure: a's length less i.
 -- Assumes nothing.
+use mathlib.Core.Path.{_≡_}
 use Prim.Native.Nat.{_-_, _≤_}
 use native.Mathlib.Omega.{arith}
 use lib.ListN.{length}
@@ -21,14 +22,20 @@ loop-holds c = (search needs, none-empty (omega arith))
 sub-loop : tie.Need-sub-loop Inv-loop μ-loop
 sub-loop c = search needs
 
-block-requires : tie.Need-block-requires Inv-loop μ-loop
-block-requires c κs = search needs
+window-requires : tie.Need-window-requires Inv-loop μ-loop
+window-requires c κs = search needs
 
-by-one-requires : tie.Need-by-one-requires Inv-loop μ-loop
-by-one-requires c κs = search needs
+cast-result : tie.Need-cast-result Inv-loop μ-loop
+cast-result c = search needs
+
+add-result : tie.Need-add-result Inv-loop μ-loop
+add-result c = search needs
 
 returns : tie.Need-returns Inv-loop μ-loop
-returns c = let l = c .before .before .before .before .loop in first-join (omega arith) (l .inv .1) (c .by-one .ensures)
+returns c =
+    let l = c .before .before .before .loop in
+    let f = c .before .window .ensures in
+    record { low = omega arith; high = omega arith; before = none-join (l .inv .1) (f .before); found = λ h. f .found (omega arith) }
 
 add-i : tie.Need-add-i Inv-loop μ-loop
 add-i c = search needs
@@ -37,13 +44,17 @@ loop-less : tie.Need-loop-less Inv-loop μ-loop
 loop-less c = search needs
 
 loop-again : tie.Need-loop-again Inv-loop μ-loop
-loop-again c = let l = c .before .before .before .loop in (omega arith, none-join (l .inv .1) (c .before .block .ensures (c .if1 .left)))
+loop-again c =
+    let l = c .before .before .before .loop in
+    let f = c .before .window .ensures in
+    let e : c .before .window .result ≡ 64 = omega arith in
+    (omega arith, none-join (l .inv .1) (rw e at (f .before)))
 
-by-one-requires-2 : tie.Need-by-one-requires-2 Inv-loop μ-loop
-by-one-requires-2 c κs = search needs
+by-one-requires : tie.Need-by-one-requires Inv-loop μ-loop
+by-one-requires c κs = search needs
 
 returns-2 : tie.Need-returns-2 Inv-loop μ-loop
-returns-2 c = let l = c .before .before .loop in first-join (omega arith) (l .inv .1) (c .by-one2 .ensures)
+returns-2 c = let l = c .before .before .loop in first-join (omega arith) (l .inv .1) (c .by-one .ensures)
 
 pub scan-spec : {M : Type 1} → statement M
 scan-spec =
@@ -53,11 +64,12 @@ scan-spec =
     μ-loop
     loop-holds
     sub-loop
-    block-requires
-    by-one-requires
+    window-requires
+    cast-result
+    add-result
     returns
     add-i
     loop-less
     loop-again
-    by-one-requires-2
+    by-one-requires
     returns-2)

@@ -4,16 +4,14 @@ use mathlib.Core.Path.{_≡_, sym, ap, _∙_}
 use Prim.Native.Nat.{_+_, _-_, _≤_}
 use native.Mathlib.Omega.{arith}
 use native.Mathlib.Numerals.{add-one}
-use lib.ListN.{length, drop}
-use Rattle.elements.specs.Spans.{In}
+use lib.ListN.{length, drop, length-take}
 use Rattle.whole.specs.Step.{step, answer, handing}
 use Rattle.whole.proofs.TurnLaws.{Fits, onReading, turn-at, fits-at, pass-on, print-none, print-some, step-long, step-past, step-many, step-within}
-use Rattle.grammar.specs.Epl.{epl, origin}
+use Rattle.grammar.specs.Epl.{epl}
 use Rattle.grammar.proofs.FoundLaws.{reads}
 use Rattle.walk.specs.Steps.{stateOf, unitOf}
 use Rattle.walk.specs.declared.unit.UnitReading.{UnitReading}
 use Rattle.walk.specs.declared.unit.UnitReading.the-variants.{Nothing, Fault, Passed, Cleared, Element, Print}
-use Rattle.walk.proofs.UnitLaws.{inside, near-in}
 use borrow.Author.Needs.{needs}
 use Rattle.walk.proofs.step.step.Statement.{statement}
 use Rattle.walk.proofs.step.step.Tie as tie
@@ -33,10 +31,10 @@ taken d q k =
     let a = d .before .before .before .before .before .before .before .before .args in
     sym (l .inv .1 ∙ turn-at epl reads (a .input .now) (l .at) (l .reference) (unitOf q) (ap unitOf (sym k) ∙ d .read-unit .ensures) (stateOf (a .st)) (a .st .pending))
 
-room : (d : tie.After-read-unit Inv-loop μ-loop) (q : UnitReading) → d .read-unit .result ≡ q → Fits epl reads In (length (d .before .before .before .before .before .before .before .before .args .input .now) - d .before .before .loop .at) (unitOf q)
+room : (d : tie.After-read-unit Inv-loop μ-loop) (q : UnitReading) → d .read-unit .result ≡ q → Fits epl (length (d .before .before .before .before .before .before .before .before .args .input .now) - d .before .before .loop .at) (unitOf q)
 room d q k =
     let l = d .before .before .loop in
-    fits-at epl reads (d .before .before .before .before .before .before .before .before .args .input .now) (l .at) (l .reference) (unitOf q) (ap unitOf (sym k) ∙ d .read-unit .ensures) In inside
+    fits-at epl reads (d .before .before .before .before .before .before .before .before .args .input .now) (l .at) (l .reference) (unitOf q) (ap unitOf (sym k) ∙ d .read-unit .ensures)
 
 returns : tie.Need-returns Inv-loop μ-loop
 returns c = sym (step-long epl (c .before .before .args .input .now) (stateOf (c .before .before .args .st)) (c .if1 .taken))
@@ -62,7 +60,10 @@ part-read-unit-end : tie.Need-part-read-unit-end Inv-loop μ-loop
 part-read-unit-end c = search needs
 
 read-unit-requires : tie.Need-read-unit-requires Inv-loop μ-loop
-read-unit-requires c κs = search needs
+read-unit-requires c κs =
+    let input = c .before .before .before .before .before .before .before .args .input .now in
+    let at = c .before .loop .at in
+    omega (arith, length-take (length input - at) (drop at input))
 
 enum-told : tie.Need-enum-told Inv-loop μ-loop
 enum-told c = search needs
@@ -107,27 +108,20 @@ returns-6 c = taken (c .before .before .before) (Cleared (c .before .size2 .give
 enum-known-size-3 : tie.Need-enum-known-size-3 Inv-loop μ-loop
 enum-known-size-3 c = search needs
 
-shift-requires : tie.Need-shift-requires Inv-loop μ-loop
-shift-requires c κs =
-    let d = c .before .before .before in
-    let g = c .before .size3 .given in
-    let i = room d (Element (g .0 .0) (g .0 .1 .0)) (g .1) in
-    near-in (d .before .before .loop .at) (g .0 .0) (g .0 .1 .0) (omega (arith, i .1)) (i .2)
+add-t26 : tie.Need-add-t26 Inv-loop μ-loop
+add-t26 c = omega (arith, room (c .before .before .before) (Element (c .before .size3 .given .0 .0) (c .before .size3 .given .0 .1 .0)) (c .before .size3 .given .1))
 
 add-t27 : tie.Need-add-t27 Inv-loop μ-loop
-add-t27 c = omega (arith, room (c .before .before .before .before) (Element (c .before .before .size3 .given .0 .0) (c .before .before .size3 .given .0 .1 .0)) (c .before .before .size3 .given .1) .1)
-
-add-t28 : tie.Need-add-t28 Inv-loop μ-loop
-add-t28 c = omega arith
+add-t27 c = omega arith
 
 returns-7 : tie.Need-returns-7 Inv-loop μ-loop
-returns-7 c = rw (c .shift .ensures, add-one) (taken (c .before .before .before .before) (Element (c .before .before .size3 .given .0 .0) (c .before .before .size3 .given .0 .1 .0)) (c .before .before .size3 .given .1))
+returns-7 c = rw add-one (taken (c .before .before .before) (Element (c .before .size3 .given .0 .0) (c .before .size3 .given .0 .1 .0)) (c .before .size3 .given .1))
 
 enum-known-size-4 : tie.Need-enum-known-size-4 Inv-loop μ-loop
 enum-known-size-4 c = search needs
 
-add-t32 : tie.Need-add-t32 Inv-loop μ-loop
-add-t32 c = omega (arith, room (c .before .before .before .before) (Print (c .before .before .size4 .given .0 .0)) (c .before .before .size4 .given .1))
+add-t31 : tie.Need-add-t31 Inv-loop μ-loop
+add-t31 c = omega (arith, room (c .before .before .before .before) (Print (c .before .before .size4 .given .0 .0)) (c .before .before .size4 .given .1))
 
 returns-8 : tie.Need-returns-8 Inv-loop μ-loop
 returns-8 c =
@@ -177,12 +171,11 @@ step-spec =
     add-t23
     returns-6
     enum-known-size-3
-    shift-requires
+    add-t26
     add-t27
-    add-t28
     returns-7
     enum-known-size-4
-    add-t32
+    add-t31
     returns-8
     add-at-2
     loop-less-2

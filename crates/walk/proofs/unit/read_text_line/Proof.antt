@@ -1,13 +1,9 @@
 -- `walk::unit::read_text_line` meets its contract. Assumes nothing.
-use mathlib.Core.Path.{sym, ap, _∙_}
-use Prim.Native.Nat.{ℕ}
-use lib.ListN.{length, take}
+use mathlib.Core.Path.{sym}
+use native.Mathlib.Omega.{arith}
+use lib.ListN.{take, length-take}
 use lib.Seq.{length-take-le}
-use Rattle.parameters.specs.declared.reading.Reading.{Reading}
-use Rattle.whole.specs.Reading.{did}
-use Rattle.grammar.specs.Epl.{actOf}
-use Rattle.grammar.specs.Turn.{sizeBy, lineTurn}
-use Rattle.walk.proofs.UnitLaws.{line-turn}
+use Rattle.walk.proofs.UnitLaws.{line-moved}
 use borrow.Author.Needs.{needs}
 use Rattle.walk.proofs.unit.read_text_line.Statement.{statement}
 use Rattle.walk.proofs.unit.read_text_line.Tie as tie
@@ -22,7 +18,7 @@ slice-aggregate-read-line : tie.Need-slice-aggregate-read-line
 slice-aggregate-read-line c = let f = c .before .before in sym (length-take-le (f .find .result) (f .before .before .args .rest .now) (f .find .ensures .fits))
 
 read-line-requires : tie.Need-read-line-requires
-read-line-requires c κs = search needs
+read-line-requires c κs = let f = c .before .before in omega (arith, length-take (f .find .result) (f .before .before .args .rest .now))
 
 line-unit-requires : tie.Need-line-unit-requires
 line-unit-requires c κs = search needs
@@ -31,15 +27,9 @@ returns : tie.Need-returns
 returns c =
     let z = c .before .before .before in
     let f = z .before in
-    let s = f .before .before .args .rest .now in
-    let r = f .before .before .args .reference in
-    let n = f .find .result in
-    let size = z .line-size .result in
-    c .line-unit .ensures
-    ∙ ap (λ (q : Reading). did size (actOf r q)) (c .before .read-line .ensures)
-    ∙ line-turn size r (take n s)
-    ∙ ap (λ (m : ℕ). lineTurn m r (take n s)) (z .line-size .ensures)
-    ∙ ap (λ (m : ℕ). lineTurn (sizeBy m (length s)) r (take m s)) (f .find .ensures .is)
+    let a = f .before .before .args in
+    rw (← f .find .ensures .is, ← z .line-size .ensures, ← line-moved (a .at) (z .line-size .result) (a .reference) (take (f .find .result) (a .rest .now)), ← c .before .read-line .ensures)
+    (c .line-unit .ensures)
 
 pub read-text-line-spec : {M : Type 1} → statement M
 read-text-line-spec =

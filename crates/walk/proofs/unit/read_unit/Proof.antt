@@ -9,7 +9,7 @@ use Rattle.walk.proofs.unit.read_unit.Statement.{statement}
 use Rattle.walk.proofs.unit.read_unit.Tie as tie
 
 returns : tie.Need-returns
-returns c = let a = c .before .before .args in sym (reading-none (a .rest .now) (a .reference) (c .if1 .taken))
+returns c = let a = c .before .before .args in rw (reading-none (a .rest .now) (a .reference) (c .if1 .taken))
 
 read-block-requires : tie.Need-read-block-requires
 read-block-requires c κs = search needs
@@ -30,19 +30,19 @@ returns-2 : tie.Need-returns-2
 returns-2 c =
     let b = c .before .before .before in
     let a = b .before .before .before .args in
-    c .read-text-line .ensures ∙ sym (line-reads (a .rest .now) (a .reference) (block-none (a .rest .now) (a .reference) (sym (b .read-block .ensures) ∙ c .before .enum-told .given .1)) (omega (arith, b .before .if1 .left)))
+    rw (line-reads (a .rest .now) (a .reference) (block-none (a .at) (a .rest .now) (a .reference) (sym (b .read-block .ensures) ∙ c .before .enum-told .given .1)) (omega (arith, b .before .if1 .left))) (c .read-text-line .ensures)
 
 returns-3 : tie.Need-returns-3
 returns-3 c =
     let b = c .before .before .before in
     let a = b .before .before .before .args in
-    sym (block-fault (a .rest .now) (a .reference) (c .before .n .given .0 .0) (sym (b .read-block .ensures) ∙ c .before .n .given .1))
+    sym (block-fault (a .at) (a .rest .now) (a .reference) (c .before .n .given .0 .0) (sym (b .read-block .ensures) ∙ c .before .n .given .1))
 
 returns-4 : tie.Need-returns-4
 returns-4 c =
     let b = c .before .before .before in
     let a = b .before .before .before .args in
-    sym (block-gives (a .rest .now) (a .reference) (c .before .size .given .0 .0) (c .before .size .given .0 .1 .0) (sym (b .read-block .ensures) ∙ c .before .size .given .1))
+    sym (block-gives (a .at) (a .rest .now) (a .reference) (c .before .size .given .0 .0) (c .before .size .given .0 .1 .0) (sym (b .read-block .ensures) ∙ c .before .size .given .1))
 
 pub read-unit-spec : {M : Type 1} → statement M
 read-unit-spec =

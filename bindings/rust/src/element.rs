@@ -1,0 +1,127 @@
+use crate::raw::{self, Answer};
+
+/// What a command draws.
+#[derive(Clone, Debug, PartialEq)]
+pub struct Element<'a> {
+    /// The position in dots, the reference point added.
+    pub x: i32,
+    pub y: i32,
+    pub kind: Kind,
+    /// The bytes of its data as they stand in the file: a graphic's dots, a 0 bit black; all other data is text. Empty where a kind has none.
+    pub data: &'a [u8],
+}
+
+impl Element<'_> {
+    /// The data as text: UTF-8 as it stands, U+FFFD for what is none. A graphic has none.
+    pub fn text(&self) -> Option<String> {
+        if self.data.is_empty() || matches!(self.kind, Kind::Graphic { .. }) {
+            return None;
+        }
+        let bytes = raw::write(self.data.len(), |out| raw::data(self.data, 0, self.data.len(), out));
+        Some(String::from_utf8(bytes.expect("part of a file is no longer than the file")).expect("decoded data is UTF-8"))
+    }
+}
+
+/// The kind of an element and its numbers. Sizes are in dots, rotations in quarter turns, 0 to 3.
+#[derive(Clone, Debug, PartialEq)]
+pub enum Kind {
+    Text { rotation: u8, reverse: bool, height: f64, width: f64 },
+    /// A box, or a line that is one.
+    Box { width: i32, height: i32, thickness: i32, white: bool },
+    /// It falls from top left to bottom right, or rises from bottom left to top right.
+    Diagonal { width: i32, height: i32, thickness: i32, falls: bool },
+    Graphic { row_bytes: i32 },
+    Code128 { bars: Bars, mode: BarMode },
+    Ean13(Bars),
+    Ean8(Bars),
+    UpcA(Bars),
+    UpcE(Bars),
+    /// The ratio is that of a wide bar to a narrow one.
+    Interleaved2of5 { bars: Bars, check: bool, ratio: f64 },
+    Code39 { bars: Bars, check: bool, ratio: f64 },
+    /// Security -1, columns 0 and rows 0: the encoder chooses.
+    Pdf417 { rotation: u8, row_height: i32, security: i32, columns: i32, rows: i32, truncate: bool, module_width: i32 },
+    Aztec { magnification: i32, size: i32 },
+    DataMatrix { module: i32, columns: i32, rows: i32 },
+    Qr { magnification: i32, level: QrLevel },
+    Maxicode { mode: i32 },
+}
+
+/// What all bar codes with bars have.
+#[derive(Clone, Copy, Debug, PartialEq, Eq)]
+pub struct Bars {
+    pub rotation: u8,
+    /// The width of a narrow bar.
+    pub narrow: i32,
+    pub height: i32,
+    /// With its text below.
+    pub line: bool,
+}
+
+/// The mode of a Code 128.
+#[derive(Clone, Copy, Debug, PartialEq, Eq)]
+pub enum BarMode {
+    Ucc,
+    Automatic,
+    Ean,
+}
+
+/// The error correction of a QR code.
+#[derive(Clone, Copy, Debug, PartialEq, Eq)]
+pub enum QrLevel {
+    H,
+    Q,
+    M,
+    L,
+}
+
+/// The element that an answer of kind 1 to 16 is.
+pub(crate) fn element(input: &[u8], a: Answer) -> Element<'_> {
+    let bars = Bars { rotation: a.rotation, narrow: a.width, height: a.height, line: a.line != 0 };
+    let (check, ratio) = (a.check != 0, a.ratio);
+    let kind = match a.kind {
+        1 => Kind::Text { rotation: a.rotation, reverse: a.reverse != 0, height: a.text_height, width: a.text_width },
+        2 => Kind::Box { width: a.width, height: a.height, thickness: a.thickness, white: a.colour != 0 },
+        3 => Kind::Diagonal { width: a.width, height: a.height, thickness: a.thickness, falls: a.direction != 0 },
+        4 => Kind::Graphic { row_bytes: a.row_bytes },
+        5 => Kind::Code128 { bars, mode: bar_mode(a.mode) },
+        6 => Kind::Ean13(bars),
+        7 => Kind::Ean8(bars),
+        8 => Kind::UpcA(bars),
+        9 => Kind::Interleaved2of5 { bars, check, ratio },
+        10 => Kind::Code39 { bars, check, ratio },
+        11 => Kind::Pdf417 {
+            rotation: a.rotation,
+            row_height: a.height,
+            security: a.security,
+            columns: a.columns,
+            rows: a.rows,
+            truncate: a.truncate != 0,
+            module_width: a.width,
+        },
+        12 => Kind::Aztec { magnification: a.magnification, size: a.size },
+        13 => Kind::DataMatrix { module: a.height, columns: a.columns, rows: a.rows },
+        14 => Kind::Qr { magnification: a.magnification, level: qr_level(a.level) },
+        15 => Kind::Maxicode { mode: a.mode },
+        16 => Kind::UpcE(bars),
+        _ => unreachable!("the contract of laddertick_step names no other kind"),
+    };
+    Element { x: a.x, y: a.y, kind, data: &input[a.data_start..][..a.data_len] }
+}
+
+fn bar_mode(mode: i32) -> BarMode {
+    match mode {
+        1 => BarMode::Ucc,
+        2 => BarMode::Automatic,
+        _ => BarMode::Ean,
+    }
+}
+
+fn qr_level(letter: u8) -> QrLevel {
+    match letter {
+        b'H' => QrLevel::H,
+        b'Q' => QrLevel::Q,
+        b'M' => QrLevel::M,
+        _ => QrLevel::L,
+    }
+}

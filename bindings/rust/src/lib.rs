@@ -1,0 +1,38 @@
+//! EPL label files: a file's labels and its normalised text.
+//!
+//! ```
+//! let file = b"R10,20\nLO5,6,30,4\nA5,40,0,2,1,1,N,\"Bag 7\"\nP1\n";
+//! for label in laddertick::labels(file) {
+//!     for element in label?.elements {
+//!         println!("{},{} {:?} {:?}", element.x, element.y, element.kind, element.text());
+//!     }
+//! }
+//! # Ok::<(), laddertick::Refused>(())
+//! ```
+//!
+//! The work is done by a static library in which every function is proved to meet its contract, to return, and to touch only what it was lent
+//! (docs/CONTRACTS.md of the repository). This crate is the thin safe side of it: it allocates, the library does not.
+
+mod element;
+mod raw;
+mod refused;
+mod walk;
+
+pub use element::{BarMode, Bars, Element, Kind, QrLevel};
+pub use refused::Refused;
+pub use walk::{labels, steps, Label, Labels, Step, Steps};
+
+/// The longest input; a longer one is refused 14.
+pub const LONGEST: usize = 16_777_216;
+
+/// The file with blanks and empty lines taken away and graphics copied whole. Only an input over [`LONGEST`] is refused.
+pub fn normalise(input: &[u8]) -> Result<Vec<u8>, Refused> {
+    // n + n / 6 + 1 bytes are always enough, so there is nothing to measure.
+    raw::write(input.len() + input.len() / 6 + 1, |out| raw::normalise(input, out))
+}
+
+/// The labels of a file as frames, one a line in hexadecimal; or the refusal of the earliest refused line.
+pub fn list(input: &[u8]) -> Result<String, Refused> {
+    let bytes = raw::write(0, |out| raw::list(input, out))?;
+    Ok(String::from_utf8(bytes).expect("a listing is hexadecimal digits and LF"))
+}

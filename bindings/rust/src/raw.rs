@@ -1,0 +1,103 @@
+//! The functions of the static library, as include/laddertick.h has them, and safe calls of them.
+
+use crate::Refused;
+
+/// Where a walk stands.
+#[repr(C)]
+#[derive(Clone, Copy, Debug, PartialEq, Eq)]
+pub struct Walk {
+    pub place: usize,
+    pub x: i32,
+    pub y: i32,
+    pub pending: usize,
+}
+
+/// What a step answers; a field that its kind does not name is 0.
+#[repr(C)]
+#[derive(Clone, Copy, Debug, PartialEq)]
+pub struct Answer {
+    pub kind: u8,
+    pub number: u8,
+    pub rotation: u8,
+    pub reverse: u8,
+    pub colour: u8,
+    pub direction: u8,
+    pub line: u8,
+    pub check: u8,
+    pub truncate: u8,
+    pub level: u8,
+    pub x: i32,
+    pub y: i32,
+    pub width: i32,
+    pub height: i32,
+    pub thickness: i32,
+    pub row_bytes: i32,
+    pub security: i32,
+    pub columns: i32,
+    pub rows: i32,
+    pub magnification: i32,
+    pub size: i32,
+    pub mode: i32,
+    pub text_height: f64,
+    pub text_width: f64,
+    pub ratio: f64,
+    pub place: usize,
+    pub count: usize,
+    pub data_start: usize,
+    pub data_len: usize,
+    pub next: Walk,
+}
+
+/// Number 0: `place` bytes are written. Else a refusal.
+#[repr(C)]
+#[derive(Clone, Copy)]
+pub struct Written {
+    number: u32,
+    place: usize,
+}
+
+extern "C" {
+    fn laddertick_start() -> Walk;
+    fn laddertick_step(input: *const u8, input_len: usize, walk: Walk) -> Answer;
+    fn laddertick_data(input: *const u8, input_len: usize, start: usize, len: usize, out: *mut u8, out_len: usize) -> Written;
+    fn laddertick_list(input: *const u8, input_len: usize, out: *mut u8, out_len: usize) -> Written;
+    fn laddertick_normalise(input: *const u8, input_len: usize, out: *mut u8, out_len: usize) -> Written;
+}
+
+// Safe, all of them: the pointers and lengths are those of slices, which are not NULL and, one of them being `&mut`, do not overlap. The library asks
+// for nothing else and keeps no pointer.
+
+pub fn start() -> Walk {
+    unsafe { laddertick_start() }
+}
+
+pub fn step(input: &[u8], walk: Walk) -> Answer {
+    unsafe { laddertick_step(input.as_ptr(), input.len(), walk) }
+}
+
+pub fn data(input: &[u8], start: usize, len: usize, out: &mut [u8]) -> Written {
+    unsafe { laddertick_data(input.as_ptr(), input.len(), start, len, out.as_mut_ptr(), out.len()) }
+}
+
+pub fn list(input: &[u8], out: &mut [u8]) -> Written {
+    unsafe { laddertick_list(input.as_ptr(), input.len(), out.as_mut_ptr(), out.len()) }
+}
+
+pub fn normalise(input: &[u8], out: &mut [u8]) -> Written {
+    unsafe { laddertick_normalise(input.as_ptr(), input.len(), out.as_mut_ptr(), out.len()) }
+}
+
+/// What `of` writes: into room for `guess` bytes, or into as many as it then says that it needs.
+pub fn write(guess: usize, of: impl Fn(&mut [u8]) -> Written) -> Result<Vec<u8>, Refused> {
+    let mut out = vec![0; guess];
+    let mut written = of(&mut out);
+    if written.number == Refused::OUTPUT_TOO_SHORT as u32 {
+        out.resize(written.place, 0);
+        written = of(&mut out);
+    }
+    if written.number != 0 {
+        return Err(Refused { number: written.number as u8, place: written.place });
+    }
+    out.truncate(written.place);
+    Ok(out)
+}

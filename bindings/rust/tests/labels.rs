@@ -1,0 +1,117 @@
+//! Answers that the scope document gives, through the safe crate.
+
+use laddertick::{labels, list, normalise, steps, BarMode, Bars, Element, Kind, Label, QrLevel, Refused, Step, LONGEST};
+
+/// The one element of a file with one label.
+fn one(file: &[u8]) -> Element<'_> {
+    let mut labels: Vec<Label> = labels(file).collect::<Result<_, _>>().unwrap();
+    assert_eq!(labels.len(), 1);
+    assert_eq!(labels[0].elements.len(), 1);
+    labels.remove(0).elements.remove(0)
+}
+
+/// The refusal of a file.
+fn refused(file: &[u8]) -> (u8, usize) {
+    let refused = labels(file).collect::<Result<Vec<_>, _>>().unwrap_err();
+    assert_eq!(list(file).unwrap_err(), refused);
+    (refused.number, refused.place)
+}
+
+#[test]
+fn the_worked_example() {
+    let file = b"R10,20\nLO5,6,30,4\nP1\n";
+    assert_eq!(list(file).unwrap(), "0000000001\n020000000f0000001a0000001e000000040000000400\n");
+    let line = one(file);
+    assert_eq!((line.x, line.y, line.data, line.text()), (15, 26, &b""[..], None));
+    assert_eq!(line.kind, Kind::Box { width: 30, height: 4, thickness: 4, white: false });
+}
+
+#[test]
+fn every_kind() {
+    let bars = |rotation, narrow, height, line| Bars { rotation, narrow, height, line };
+    let cases: [(&[u8], Kind, Option<&str>); 17] = [
+        (b"A1,2,1,1,2,1,R,\"x\"", Kind::Text { rotation: 1, reverse: true, height: 12.0, width: 16.0 }, Some("x")),
+        (b"LW1,2,3,4", Kind::Box { width: 3, height: 4, thickness: 3, white: true }, None),
+        (b"X1,2,5,11,22", Kind::Box { width: 10, height: 20, thickness: 5, white: false }, None),
+        (b"LS1,12,1,6,2", Kind::Diagonal { width: 5, height: 10, thickness: 1, falls: false }, None),
+        (b"GW1,2,1,2,\x00\x0a", Kind::Graphic { row_bytes: 1 }, None),
+        (b"B1,2,0,1E,2,2,9,B,\"x\"", Kind::Code128 { bars: bars(0, 2, 9, true), mode: BarMode::Ean }, Some("x")),
+        (b"B1,2,3,E30,2,2,9,N,\"x\"", Kind::Ean13(bars(3, 2, 9, false)), Some("x")),
+        (b"B1,2,0,E80,2,2,9,N,\"x\"", Kind::Ean8(bars(0, 2, 9, false)), Some("x")),
+        (b"B1,2,0,UA0,2,2,9,N,\"x\"", Kind::UpcA(bars(0, 2, 9, false)), Some("x")),
+        (b"B1,2,0,UE0,2,2,9,N,\"x\"", Kind::UpcE(bars(0, 2, 9, false)), Some("x")),
+        (b"B1,2,0,2C,2,5,9,N,\"x\"", Kind::Interleaved2of5 { bars: bars(0, 2, 9, false), check: true, ratio: 2.5 }, Some("x")),
+        (b"B1,2,0,3,2,3,9,N,\"x\"", Kind::Code39 { bars: bars(0, 2, 9, false), check: false, ratio: 2.0 }, Some("x")),
+        (
+            b"b1,2,P,600,300,s3,l4,r30,x2,y6,\"x\"",
+            Kind::Pdf417 { rotation: 0, row_height: 6, security: 3, columns: 4, rows: 30, truncate: false, module_width: 2 },
+            Some("x"),
+        ),
+        (b"b1,2,A,d4,\"x\"", Kind::Aztec { magnification: 4, size: 0 }, Some("x")),
+        (b"b1,2,D,h4,\"x\"", Kind::DataMatrix { module: 4, columns: 0, rows: 0 }, Some("x")),
+        (b"b1,2,Q,s4,eL,\"x\"", Kind::Qr { magnification: 4, level: QrLevel::L }, Some("x")),
+        (b"b1,2,M,m3,\"\xff\"", Kind::Maxicode { mode: 3 }, Some("\u{fffd}")),
+    ];
+    for (file, kind, text) in cases {
+        let element = one(file);
+        assert_eq!((element.x, element.y), (1, 2), "{}", file.escape_ascii());
+        assert_eq!(element.kind, kind);
+        assert_eq!(element.text().as_deref(), text);
+    }
+}
+
+#[test]
+fn data_is_the_files() {
+    let file = b"GW0,0,2,2,ab\nd\nP";
+    let element = one(file);
+    assert_eq!(element.data, b"ab\nd");
+    assert_eq!(element.data.as_ptr(), file[10..].as_ptr());
+}
+
+#[test]
+fn steps_clear_and_print() {
+    let file = b"N\nLO1,1,1,1\nN\nLO2,2,2,2\nP\nP\nLO3,3,3,3";
+    let said: Vec<String> = steps(file)
+        .map(|step| match step.unwrap() {
+            Step::Element(e) => format!("at {}", e.x),
+            Step::Clear => "clear".to_string(),
+            Step::Print(n) => format!("print {n}"),
+        })
+        .collect();
+    assert_eq!(said, ["clear", "at 1", "clear", "at 2", "print 1", "at 3", "print 1"]);
+    assert_eq!(labels(file).count(), 2);
+}
+
+#[test]
+fn refusals_say_number_place_and_meaning() {
+    assert_eq!(refused(b"N\nA1,2,0,1,1,1,,\"x\"\n"), (1, 2));
+    assert_eq!(refused(b"N\n B0,0,0,1D,2,2,9,B,\"x\"\n"), (7, 2));
+    assert_eq!(refused(b"GW1,2,3"), (10, 0));
+    assert_eq!(refused(b"GW0,0,-1,1,"), (11, 0));
+    assert_eq!(refused(b"GW0,0,1,1,"), (12, 0));
+    assert_eq!(refused(b"X2147483647,0,1,-1,0"), (13, 0));
+    let words = labels(b"LO1\n").next().unwrap().unwrap_err().to_string();
+    assert_eq!(words, "refused (4) at byte 0: a line (LO, LW) has fewer than 4 fields");
+    // What was printed before the refused line, then the refusal, then nothing.
+    let mut walk = labels(b"LO1,1,1,1\nP\nLO2,2,2,2\nX\nP\n");
+    assert_eq!(walk.next().unwrap().unwrap().elements.len(), 1);
+    assert_eq!(walk.next().unwrap().unwrap_err(), Refused { number: 6, place: 22 });
+    assert!(walk.next().is_none());
+}
+
+#[test]
+fn normalised_text() {
+    assert_eq!(normalise(b" N \r\n").unwrap(), b"N\n");
+    assert_eq!(normalise(b"GW,,,,".repeat(50).as_slice()).unwrap(), b"GW,,,,\n".repeat(50));
+    assert_eq!(normalise(b"").unwrap(), b"");
+}
+
+#[test]
+fn at_the_limit() {
+    let mut file = vec![b'\n'; LONGEST];
+    assert_eq!(normalise(&file).unwrap(), b"");
+    assert_eq!(labels(&file).count(), 0);
+    file.push(b'\n');
+    assert_eq!(normalise(&file).unwrap_err(), Refused { number: 14, place: 0 });
+    assert_eq!(refused(&file), (14, 0));
+}

@@ -1,0 +1,2 @@
+-- the answer to a host that asks for decoded data
+pub mod DecodingLaws

@@ -1,0 +1,163 @@
+// The flat answer, and the parts of one that several kinds have.
+ghost use mathlib.Core.Path.{_≡_};
+ghost use Rattle.flat.specs.Flat.{event, placed, barred};
+use element_frames::fields::flag;
+use element_frames::fields::rotation;
+use elements::data_span::DataSpan;
+use elements::field_orientation::FieldOrientation;
+use elements::label_position::LabelPosition;
+
+// The state of a walk: where the next unit stands, the reference point, and how many elements are pending.
+#[repr(C)]
+pub struct Walk {
+    pub place: usize,
+    pub x: i32,
+    pub y: i32,
+    pub pending: usize,
+}
+
+// What a step answers. A field that is none of its kind's is 0.
+#[repr(C)]
+pub struct Answer {
+    // 1 to 16 an element, by its frame's kind; 0 a print, 17 a clear, 18 the end, 255 a refusal.
+    pub kind: u8,
+    // A refusal's.
+    pub number: u8,
+    // Quarter turns, 0 to 3.
+    pub rotation: u8,
+    // Flag: a text is reversed.
+    pub reverse: u8,
+    // Of a box: 0 black, 1 white.
+    pub colour: u8,
+    // Of a diagonal: 1 where x2 - x1 and y2 - y1 have one sign or are both zero.
+    pub direction: u8,
+    // Flag: a bar code has its line of text.
+    pub line: u8,
+    // Flag: 2 of 5 or Code 39 has its check digit.
+    pub check: u8,
+    // Flag: PDF417 is truncated.
+    pub truncate: u8,
+    // QR's letter.
+    pub level: u8,
+    pub x: i32,
+    pub y: i32,
+    // Of a bar code the narrow bar's, of PDF417 the module's.
+    pub width: i32,
+    // Of a bar code its bars', of PDF417 a row's, of Data Matrix the module's.
+    pub height: i32,
+    pub thickness: i32,
+    pub row_bytes: i32,
+    pub security: i32,
+    pub columns: i32,
+    pub rows: i32,
+    pub magnification: i32,
+    pub size: i32,
+    // Of Code 128 its mode flag, of MaxiCode its mode.
+    pub mode: i32,
+    pub text_height: f64,
+    pub text_width: f64,
+    // Wide to narrow.
+    pub ratio: f64,
+    // A refusal's.
+    pub place: usize,
+    // A print's: how many elements its label has.
+    pub count: usize,
+    // Where the data stands in the input, and how many bytes it has before decoding.
+    pub data_start: usize,
+    pub data_len: usize,
+    // The state for the next step; after a refusal the one that was given.
+    pub next: Walk,
+}
+
+// A print, a clear, the end or a refusal.
+pub fn event(kind: u8, number: u8, place: usize, count: usize, next: Walk) -> Answer
+    ensures { λ r. ⌜ r ≡ event kind number place count next ⌝ }
+{
+    Answer {
+        kind,
+        number,
+        rotation: 0,
+        reverse: 0,
+        colour: 0,
+        direction: 0,
+        line: 0,
+        check: 0,
+        truncate: 0,
+        level: 0,
+        x: 0,
+        y: 0,
+        width: 0,
+        height: 0,
+        thickness: 0,
+        row_bytes: 0,
+        security: 0,
+        columns: 0,
+        rows: 0,
+        magnification: 0,
+        size: 0,
+        mode: 0,
+        text_height: 0.0,
+        text_width: 0.0,
+        ratio: 0.0,
+        place,
+        count,
+        data_start: 0,
+        data_len: 0,
+        next,
+    }
+}
+
+// An element, without the fields of its kind.
+pub fn placed(kind: u8, p: LabelPosition, d: DataSpan, next: Walk) -> Answer
+    ensures { λ r. ⌜ r ≡ placed kind p d next ⌝ }
+{
+    Answer {
+        kind,
+        number: 0,
+        rotation: 0,
+        reverse: 0,
+        colour: 0,
+        direction: 0,
+        line: 0,
+        check: 0,
+        truncate: 0,
+        level: 0,
+        x: p.x,
+        y: p.y,
+        width: 0,
+        height: 0,
+        thickness: 0,
+        row_bytes: 0,
+        security: 0,
+        columns: 0,
+        rows: 0,
+        magnification: 0,
+        size: 0,
+        mode: 0,
+        text_height: 0.0,
+        text_width: 0.0,
+        ratio: 0.0,
+        place: 0,
+        count: 0,
+        data_start: d.start,
+        data_len: d.len,
+        next,
+    }
+}
+
+// A bar code with bars, without its sizes.
+pub fn barred(
+    kind: u8,
+    p: LabelPosition,
+    o: FieldOrientation,
+    line: bool,
+    d: DataSpan,
+    next: Walk,
+) -> Answer
+    ensures { λ r. ⌜ r ≡ barred kind p o line d next ⌝ }
+{
+    let mut a = placed(kind, p, d, next);
+    a.rotation = rotation(o);
+    a.line = flag(line);
+    a
+}

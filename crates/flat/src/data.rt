@@ -1,0 +1,39 @@
+// The bytes of decoded data, into a buffer that the host lends. They are measured before anything is written.
+ghost use Rattle.flat.specs.Decoding.{answerOf, bufferOf};
+ghost use Rattle.flat.specs.Written.{Flat};
+use crate::written::Written;
+use element_frames::data::part;
+use elements::data_span::DataSpan;
+use text::utf8::decoded_len;
+use text::utf8::write_decoded;
+
+// "inputs up to 16,777,216 bytes".
+pub const INPUT_MAX: usize = 16777216;
+
+// No byte is decoded to more than three.
+pub const DECODED_MAX: usize = 50331648;
+
+// What the bytes at d are decoded to, as far as the input goes, from the start of out; or a refusal: 14, or 15 with the length needed.
+pub fn decode(input: &[u8], d: DataSpan, out: &mut [u8]) -> Written
+    ensures { λ r. ⌜ Flat (now (out .exit)) (now (out .entry)) (answerOf (now (input .entry)) d) (bufferOf (now (input .entry)) d) r ⌝ }
+{
+    if INPUT_MAX < input.len() {
+        return Written {
+            number: 14,
+            place: 0,
+        };
+    }
+    let p = part(input, d);
+    let n = decoded_len(p, DECODED_MAX);
+    if out.len() < n {
+        return Written {
+            number: 15,
+            place: n,
+        };
+    }
+    write_decoded(p, out, 0);
+    Written {
+        number: 0,
+        place: n,
+    }
+}

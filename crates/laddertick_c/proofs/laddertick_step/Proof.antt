@@ -1,0 +1,21 @@
+-- `laddertick_c::laddertick_step` meets its contract. Assumes nothing.
+use mathlib.Core.Path.{ap, _∙_}
+use Rattle.laddertick_c.specs.Steps.{flatOf}
+use borrow.Author.Needs.{needs}
+use Rattle.laddertick_c.proofs.laddertick_step.Statement.{statement}
+use Rattle.laddertick_c.proofs.laddertick_step.Tie as tie
+
+state-of-requires : tie.Need-state-of-requires
+state-of-requires c κs = search needs
+
+step-requires : tie.Need-step-requires
+step-requires c κs = search needs
+
+flat-step-requires : tie.Need-flat-step-requires
+flat-step-requires c κs = search needs
+
+returns : tie.Need-returns
+returns c = rw (← c .before .before .state-of .ensures) (c .flat-step .ensures ∙ ap flatOf (c .before .step .ensures))
+
+pub laddertick-step-spec : {M : Type 1} → statement M
+laddertick-step-spec = tie.close (tie.spec state-of-requires step-requires flat-step-requires returns)

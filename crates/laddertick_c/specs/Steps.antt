@@ -1,0 +1,28 @@
+-- The flat states and answers of the static library for those of the theory (01, "Forms that change").
+use Rattle.elements.specs.declared.label_element.LabelElement.{LabelElement}
+use Rattle.elements.specs.declared.label_position.LabelPosition.{LabelPosition}
+use Rattle.whole.specs.Step.{State, Answer, element, cleared, printed, ended, refused}
+use Rattle.walk.specs.Steps.{fresh, stateOf}
+use Rattle.flat.specs.Flat.{event, flatElement}
+use Rattle.flat.specs.declared.answer.Answer as flat
+use Rattle.flat.specs.declared.answer.Walk.{Walk}
+
+-- "The state is the place, the reference and the pending count"
+abbrev pub stateOfWalk : Walk → State LabelPosition
+stateOfWalk w = record { place = w .place; ref = record { x = w .x; y = w .y }; pending = w .pending }
+
+abbrev pub walkOf : State LabelPosition → Walk
+walkOf st = record { place = st .place; x = st .ref .x; y = st .ref .y; pending = st .pending }
+
+-- "the fresh state is place 0, reference 0,0, pending count 0"
+abbrev pub freshWalk : Walk
+freshWalk = walkOf (stateOf fresh)
+
+-- "each step answers an element, a clear, a print, the end or a refusal": an element as 1 to 16, a clear as 17, a print as 0 ("00: element count"),
+-- the end as 18, a refusal as 255 ("ff, its number (1 byte), its place"); each with its state
+abbrev pub flatOf : Answer LabelPosition LabelElement Unit → flat.Answer
+flatOf (element e st) = flatElement e (walkOf st)
+flatOf (cleared st) = event 17 0 0 0 (walkOf st)
+flatOf (printed n q st) = event 0 0 0 n (walkOf st)
+flatOf (ended st) = event 18 0 0 0 (walkOf st)
+flatOf (refused k p st) = event 255 k p 0 (walkOf st)

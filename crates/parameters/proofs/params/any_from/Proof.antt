@@ -1,0 +1,83 @@
+-- `parameters::params::any_from` meets its contract: `find` gives the field's end, and `number_or` its number.
+-- Assumes nothing.
+use mathlib.Core.Path.{_≡_, ap, _∙_}
+use Prim.Native.Nat.{_+_, _-_}
+use lib.ListN.{take, drop}
+use mir.Facts.{toZ-ofZ}
+use Rattle.text.specs.Fields.{indexOf}
+use Rattle.text.specs.Number.{fieldOr}
+use Rattle.text.proofs.DropSteps.{rest}
+use Rattle.text.proofs.IntLaws.{back32}
+use Rattle.parameters.proofs.PlaceLaws.{any-comma, any-end}
+use borrow.Author.Needs.{needs}
+use Rattle.parameters.proofs.params.any_from.Statement.{statement}
+use Rattle.parameters.proofs.params.any_from.Tie as tie
+
+abbrev found : tie.After-number-or → tie.After-find
+found d = d .before .before
+
+abbrev s : tie.After-number-or → tie.Start
+s d = found d .before .before .before
+
+comma : (d : tie.After-number-or) → found d .find .result ≡ indexOf 44 (drop (s d .args .at) (s d .args .s .now))
+comma d = found d .find .ensures .is ∙ ap (indexOf 44) (rest (s d .args .s .now) (s d .args .at))
+
+number : (d : tie.After-number-or) → let n = s d .args .at in d .number-or .result ≡ fieldOr (s d .args .default) (take (n + found d .find .result - n) (drop n (s d .args .s .now)))
+number d = simp (toZ-ofZ (s d .fits .default)) at (d .number-or .ensures)
+
+sub-find : tie.Need-sub-find
+sub-find c = search needs
+
+part-find-start : tie.Need-part-find-start
+part-find-start c = search needs
+
+part-find-end : tie.Need-part-find-end
+part-find-end c = search needs
+
+find-requires : tie.Need-find-requires
+find-requires c κs = search needs
+
+add-end : tie.Need-add-end
+add-end c = search needs
+
+sub-number-or : tie.Need-sub-number-or
+sub-number-or c = search needs
+
+part-number-or-start : tie.Need-part-number-or-start
+part-number-or-start c = search needs
+
+part-number-or-end : tie.Need-part-number-or-end
+part-number-or-end c = search needs
+
+number-or-requires : tie.Need-number-or-requires
+number-or-requires c κs = search needs
+
+add-t15 : tie.Need-add-t15
+add-t15 c = search needs
+
+returns : tie.Need-returns
+returns c =
+    let n = c .before in
+    rw (back32 (n .number-or .result) (n .number-or .ok)) (any-comma _ _ _ _ _ (s n .pre) (comma n) (number n) (c .if1 .taken))
+
+returns-2 : tie.Need-returns-2
+returns-2 c =
+    let n = c .before in
+    rw (back32 (n .number-or .result) (n .number-or .ok)) (any-end _ _ _ _ _ (s n .pre) (comma n) (number n) (c .if1 .left))
+
+pub any-from-spec : {M : Type 1} → statement M
+any-from-spec =
+    tie.close
+    (tie.spec
+    sub-find
+    part-find-start
+    part-find-end
+    find-requires
+    add-end
+    sub-number-or
+    part-number-or-start
+    part-number-or-end
+    number-or-requires
+    add-t15
+    returns
+    returns-2)

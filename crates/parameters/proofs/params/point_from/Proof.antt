@@ -1,0 +1,24 @@
+-- `parameters::params::point_from` meets its contract: the first field is x, the next y.
+-- Assumes nothing.
+use Rattle.text.proofs.IntLaws.{back32}
+use Rattle.parameters.proofs.PlaceLaws.{point-is}
+use borrow.Author.Needs.{needs}
+use Rattle.parameters.proofs.params.point_from.Statement.{statement}
+use Rattle.parameters.proofs.params.point_from.Tie as tie
+
+number-from-requires : tie.Need-number-from-requires
+number-from-requires c κs = search needs
+
+number-from-requires-2 : tie.Need-number-from-requires-2
+number-from-requires-2 c κs = search needs
+
+returns : tie.Need-returns
+returns c =
+    let x = c .before .before .before .number-from in
+    let y = c .before .before .number-from2 in
+    let s = c .before .before .before .before .before .args in
+    rw (back32 (x .result .value) (c .before .struct-told .given .0 .1), back32 (y .result .value) (c .struct-told2 .given .0 .1))
+    (point-is (s .s .now) (s .at) (x .result) (y .result) (x .ensures) (y .ensures))
+
+pub point-from-spec : {M : Type 1} → statement M
+point-from-spec = tie.close (tie.spec number-from-requires number-from-requires-2 returns)

@@ -1,0 +1,14 @@
+-- What a line says where it stands at a later place (01, "Forms that change": "data is a place and length in the input").
+use Prim.Native.Nat.{ℕ}
+use Rattle.elements.specs.Spans.{shifted}
+use Rattle.parameters.specs.declared.reading.Reading.{Reading}
+use Rattle.parameters.specs.declared.reading.Reading.the-variants.{Nothing, Clear, Reference, Element, Print, Refused}
+
+-- the same where n bytes more stand before the line: only data moves
+abbrev pub laterReading : ℕ → Reading → Reading
+laterReading n Nothing = Nothing
+laterReading n Clear = Clear
+laterReading n (Reference p) = Reference p
+laterReading n (Element e) = Element (shifted n e)
+laterReading n Print = Print
+laterReading n (Refused k) = Refused k

@@ -1,0 +1,137 @@
+/*
+ * Lists a file's labels in words: a walk over the file, a step at a time.
+ *
+ *     explain FILE
+ *
+ * Each label is a line with its count, then a line for each element. A refused file is explained on standard error, and nothing else is printed.
+ */
+#include <inttypes.h>
+
+#include "file.h"
+
+static const char *const KINDS[] = {
+    "",       "text",     "box",     "diagonal", "graphic", "Code 128",    "EAN-13", "EAN-8",    "UPC-A",
+    "2 of 5", "Code 39",  "PDF417",  "Aztec",    "Data Matrix", "QR",      "MaxiCode", "UPC-E",
+};
+
+static const char *const MODES[] = {"", "UCC", "automatic", "EAN"};
+
+/* The data of an element as text, decoded. */
+static void put_data(const char *name, bytes input, laddertick_answer a)
+{
+    uint8_t *text = room(name, 3 * a.data_len);
+    laddertick_written w = laddertick_data(input.at, input.len, a.data_start, a.data_len, text, 3 * a.data_len);
+    if (w.number != 0)
+        refuse(name, input, w.number, w.place);
+    fputs(": \"", stdout);
+    put_text(stdout, text, w.place, SIZE_MAX);
+    fputc('"', stdout);
+    free(text);
+}
+
+/* The bars of a 1D bar code. */
+static void put_bars(laddertick_answer a)
+{
+    printf(", narrow %" PRId32 ", height %" PRId32, a.width, a.height);
+    if (a.kind == LADDERTICK_CODE_128)
+        printf(", mode %s", MODES[a.mode]);
+    if (a.kind == LADDERTICK_2_OF_5 || a.kind == LADDERTICK_CODE_39)
+        printf(", ratio %g%s", a.ratio, a.check ? ", check digit" : "");
+    if (a.line)
+        fputs(", with text below", stdout);
+}
+
+/* One line for the element a, which is number n of its label. */
+static void explain(const char *name, bytes input, laddertick_answer a, size_t n)
+{
+    printf("  %2zu. %s at %" PRId32 ",%" PRId32, n, KINDS[a.kind], a.x, a.y);
+    if (a.rotation != 0)
+        printf(", turned %d", 90 * a.rotation);
+    switch (a.kind) {
+    case LADDERTICK_TEXT:
+        printf(", height %g, width %g%s", a.text_height, a.text_width, a.reverse ? ", white on black" : "");
+        break;
+    case LADDERTICK_BOX:
+        printf(", %" PRId32 " by %" PRId32 ", thickness %" PRId32 "%s", a.width, a.height, a.thickness, a.colour ? ", white" : "");
+        break;
+    case LADDERTICK_DIAGONAL:
+        printf(", %" PRId32 " by %" PRId32 ", thickness %" PRId32 ", %s", a.width, a.height, a.thickness, a.direction ? "falling" : "rising");
+        break;
+    case LADDERTICK_GRAPHIC:
+        printf(", %" PRId32 " bytes a row, %zu bytes\n", a.row_bytes, a.data_len);
+        return;
+    case LADDERTICK_PDF417:
+        printf(", row height %" PRId32 ", security %" PRId32 ", columns %" PRId32 ", rows %" PRId32 ", module %" PRId32 "%s", a.height, a.security, a.columns,
+               a.rows, a.width, a.truncate ? ", truncated" : "");
+        break;
+    case LADDERTICK_AZTEC:
+        printf(", magnification %" PRId32 ", size %" PRId32, a.magnification, a.size);
+        break;
+    case LADDERTICK_DATA_MATRIX:
+        printf(", module %" PRId32 ", columns %" PRId32 ", rows %" PRId32, a.height, a.columns, a.rows);
+        break;
+    case LADDERTICK_QR:
+        printf(", magnification %" PRId32 ", level %c", a.magnification, a.level);
+        break;
+    case LADDERTICK_MAXICODE:
+        printf(", mode %" PRId32, a.mode);
+        break;
+    default:
+        put_bars(a);
+    }
+    if (a.data_len != 0)
+        put_data(name, input, a);
+    fputc('\n', stdout);
+}
+
+/* The elements of a label of n, walked again from where its first one stands. Clears cannot be among them. */
+static void explain_label(const char *name, bytes input, laddertick_walk walk, size_t label, size_t n)
+{
+    printf("label %zu: %zu %s\n", label, n, n == 1 ? "element" : "elements");
+    for (size_t i = 1; i <= n; i++) {
+        laddertick_answer a = laddertick_step(input.at, input.len, walk);
+        explain(name, input, a, i);
+        walk = a.next;
+    }
+}
+
+/* Walks to the end; where `out` is set it explains each label when its print is reached. Gives how many labels there are. */
+static size_t walk_file(const char *name, bytes input, int out)
+{
+    laddertick_walk walk = laddertick_start(), first = walk;
+    size_t labels = 0;
+    for (;;) {
+        laddertick_answer a = laddertick_step(input.at, input.len, walk);
+        walk = a.next;
+        switch (a.kind) {
+        case LADDERTICK_REFUSED:
+            refuse(name, input, a.number, a.place);
+        case LADDERTICK_END:
+            return labels;
+        case LADDERTICK_PRINT:
+            labels++;
+            if (out)
+                explain_label(name, input, first, labels, a.count);
+            first = walk;
+            break;
+        case LADDERTICK_CLEAR:
+            first = walk;
+            break;
+        }
+    }
+}
+
+int main(int argc, char **argv)
+{
+    if (argc != 2) {
+        fputs("usage: explain FILE\n", stderr);
+        return 2;
+    }
+    bytes input = read_file(argv[1]);
+    if (walk_file(argv[1], input, 0) == 0)
+        puts("no labels");
+    else
+        walk_file(argv[1], input, 1);
+    free(input.at);
+    return 0;
+}

@@ -1,0 +1,151 @@
+/*
+ * Laddertick: reads and normalises EPL label files.
+ *
+ * Link libladdertick_c.a (`rt staticlib laddertick_c` writes target/staticlib/libladdertick_c.a). It needs no other library, keeps no state, takes no
+ * heap and calls nothing: every function may be called from any thread at any time, also on the same input at once. A call needs less than 64 KiB of
+ * stack (docs/PERFORMANCE.md has the measured figure).
+ *
+ * What you lend stays yours. A function reads `input` and writes `out` only between their ends and only until it returns; it keeps no pointer. `input` and
+ * `out` must not overlap, and no pointer may be NULL; where the length is 0 any other pointer will do. Nobody may write the input while a walk over it lasts.
+ *
+ * Nothing else is asked of you. Any bytes, any lengths and any walk state, however made, are answered or refused; a refused call leaves `out` as it came.
+ * For what is proved of each function see docs/CONTRACTS.md.
+ *
+ * A file is at most LADDERTICK_LONGEST bytes.
+ */
+#ifndef LADDERTICK_H
+#define LADDERTICK_H
+
+#include <stddef.h>
+#include <stdint.h>
+
+#ifdef __cplusplus
+extern "C" {
+#endif
+
+/* "inputs up to 16,777,216 bytes": a longer one is refused 14. */
+#define LADDERTICK_LONGEST 16777216
+
+/*
+ * Numbers of refusals, and their place.
+ * The author of the label; the place is the first byte of the refused line, its blanks included:
+ */
+enum {
+    LADDERTICK_TEXT_FIELDS = 1,       /* A with fewer than 7 fields before its data */
+    LADDERTICK_BARCODE_FIELDS = 2,    /* B with fewer than 8 */
+    LADDERTICK_BARCODE_2D_FIELDS = 3, /* b with fewer than 3 */
+    LADDERTICK_LINE_FIELDS = 4,       /* LO or LW with fewer than 4 fields */
+    LADDERTICK_DIAGONAL_FIELDS = 5,   /* LS with fewer than 5 */
+    LADDERTICK_BOX_FIELDS = 6,        /* X with fewer than 5 */
+    LADDERTICK_BARCODE_TYPE = 7,      /* B with a type that is not listed */
+    LADDERTICK_BARCODE_2D_TYPE = 8,   /* b with a type that is not listed */
+    LADDERTICK_QR_DATA = 9,           /* QR data of more than 9,999 bytes, counted after decoding */
+    /* The sender of a graphic; same place: */
+    LADDERTICK_GRAPHIC_FIELDS = 10,    /* GW with fewer than four commas on its line */
+    LADDERTICK_GRAPHIC_NEGATIVE = 11,  /* GW with a negative width or number of lines */
+    LADDERTICK_GRAPHIC_TRUNCATED = 12, /* GW whose data passes the end of the input */
+    /* The author again: a position or a size outside 32 bits. */
+    LADDERTICK_OUT_OF_RANGE = 13,
+    /* The host: */
+    LADDERTICK_INPUT_TOO_LONG = 14,   /* more than LADDERTICK_LONGEST bytes; the place is 0 */
+    LADDERTICK_OUTPUT_TOO_SHORT = 15, /* the place is the length that is needed */
+    LADDERTICK_STATE_OUTSIDE = 16     /* a walk whose place is past the end, or whose pending count is above its place; the place is the walk's */
+};
+
+/* ---- a file, a step at a time ---- */
+
+/* Where a walk stands. Start with laddertick_start(), then hand on what each answer has as `next`. */
+typedef struct laddertick_walk {
+    size_t place;   /* the first byte that is not yet read */
+    int32_t x;      /* the reference point, as the last R or N set it */
+    int32_t y;
+    size_t pending; /* elements since the last clear or print */
+} laddertick_walk;
+
+/* What an answer is. 1 to 16 are elements: of the label that is being drawn, in file order. */
+enum {
+    LADDERTICK_PRINT = 0, /* the pending elements are a label: `count` */
+    LADDERTICK_TEXT = 1,
+    LADDERTICK_BOX = 2, /* lines are boxes */
+    LADDERTICK_DIAGONAL = 3,
+    LADDERTICK_GRAPHIC = 4,
+    LADDERTICK_CODE_128 = 5,
+    LADDERTICK_EAN_13 = 6,
+    LADDERTICK_EAN_8 = 7,
+    LADDERTICK_UPC_A = 8,
+    LADDERTICK_2_OF_5 = 9,
+    LADDERTICK_CODE_39 = 10,
+    LADDERTICK_PDF417 = 11,
+    LADDERTICK_AZTEC = 12,
+    LADDERTICK_DATA_MATRIX = 13,
+    LADDERTICK_QR = 14,
+    LADDERTICK_MAXICODE = 15,
+    LADDERTICK_UPC_E = 16,
+    LADDERTICK_CLEAR = 17,   /* the pending elements are dropped */
+    LADDERTICK_END = 18,     /* no bytes are left; it is answered again and again */
+    LADDERTICK_REFUSED = 255 /* `number` and `place`; `next` is the walk as you gave it */
+};
+
+/* An answer. A field that its kind does not name is 0. Positions and sizes are in dots. */
+typedef struct laddertick_answer {
+    uint8_t kind;
+    uint8_t number;    /* refusal: its number */
+    uint8_t rotation;  /* text, 1D bar codes, PDF417: quarter turns, 0 to 3 */
+    uint8_t reverse;   /* text: 1 white on black */
+    uint8_t colour;    /* box: 0 black, 1 white */
+    uint8_t direction; /* diagonal: 1 from top left to bottom right (or a point), 0 from bottom left to top right */
+    uint8_t line;      /* 1D bar codes: 1 with the line of text below */
+    uint8_t check;     /* 2 of 5, Code 39: 1 with a check digit */
+    uint8_t truncate;  /* PDF417: 1 truncated */
+    uint8_t level;     /* QR: the letter of its error correction, 'H', 'Q', 'M' or 'L' */
+    int32_t x;         /* every element: the position, the reference added */
+    int32_t y;
+    int32_t width;         /* box, diagonal: width; 1D bar codes: of the narrow bar; PDF417: of a module */
+    int32_t height;        /* box, diagonal, 1D bar codes: height; PDF417: of a row; Data Matrix: of a module */
+    int32_t thickness;     /* box, diagonal */
+    int32_t row_bytes;     /* graphic: bytes a row; the rows are data_len / row_bytes */
+    int32_t security;      /* PDF417: its level, -1 where the encoder chooses */
+    int32_t columns;       /* PDF417, Data Matrix; 0 where the encoder chooses */
+    int32_t rows;          /* PDF417, Data Matrix; 0 where the encoder chooses */
+    int32_t magnification; /* Aztec, QR */
+    int32_t size;          /* Aztec; 0 where the encoder chooses */
+    int32_t mode;          /* Code 128: 1 UCC, 2 automatic, 3 EAN; MaxiCode: its mode */
+    double text_height;    /* text: the cell's height and width */
+    double text_width;
+    double ratio;      /* 2 of 5, Code 39: wide bar to narrow bar, at least 2 */
+    size_t place;      /* refusal: its place */
+    size_t count;      /* print: how many elements */
+    size_t data_start; /* text, graphic, bar codes: where the data stands in the input, and its bytes there. A graphic's are its dots, row by row, */
+    size_t data_len;   /* a 0 bit black; all others are text that laddertick_data decodes */
+    laddertick_walk next; /* for the next step */
+} laddertick_answer;
+
+/* The walk before the first byte: place 0, reference 0,0, nothing pending. */
+laddertick_walk laddertick_start(void);
+
+/* The next element, clear, print, end or refusal. Lines that say none of these are passed. At the end a pending label is printed, then the end is answered. */
+laddertick_answer laddertick_step(const uint8_t *input, size_t input_len, laddertick_walk walk);
+
+/* ---- functions that write ---- */
+
+/* number 0: `place` bytes are written, from the start of out; bytes past them keep their values. Else a refusal, and out is as it came. */
+typedef struct laddertick_written {
+    uint32_t number;
+    size_t place;
+} laddertick_written;
+
+/* The text of len bytes at start of the input (as far as it goes), decoded: UTF-8 as it stands, ef bf bd for what is none. 3 * len bytes are always enough.
+   Refusals: 14, 15. */
+laddertick_written laddertick_data(const uint8_t *input, size_t input_len, size_t start, size_t len, uint8_t *out, size_t out_len);
+
+/* The labels of a file as frames, one a line in hexadecimal. The whole file is read before anything is written. Refusals: all but 16. */
+laddertick_written laddertick_list(const uint8_t *input, size_t input_len, uint8_t *out, size_t out_len);
+
+/* The file with blanks and empty lines taken away and graphics copied whole. n + n / 6 + 1 bytes are always enough for n. Refusals: 14, 15. */
+laddertick_written laddertick_normalise(const uint8_t *input, size_t input_len, uint8_t *out, size_t out_len);
+
+#ifdef __cplusplus
+}
+#endif
+
+#endif

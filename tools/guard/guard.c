@@ -1,0 +1,314 @@
+/*
+ * The hostile-input run: a host that lends memory between guard pages, so that one byte touched outside it ends the run at once.
+ *
+ *     guard CASES ROUNDS SEED
+ *
+ * CASES is a file of inputs (each its length, 4 bytes with the most significant first, and its bytes: crates/replay/stdin). Each input, as it stands and in
+ * ROUNDS damaged copies, goes to every entry point: once with its first byte behind a guard page, once with its last byte before one, and not writable.
+ * Buffers likewise, with room to spare, with just enough and with one byte less. Calls run on a stack of 64 KiB between guard pages.
+ * Held as well: a refused call leaves the buffer as it came, bytes past the written length keep their values, and both placements are answered alike.
+ */
+#define _GNU_SOURCE
+#include <signal.h>
+#include <stdio.h>
+#include <stdlib.h>
+#include <string.h>
+#include <sys/mman.h>
+#include <ucontext.h>
+#include <unistd.h>
+
+#include "laddertick.h"
+
+enum { PAGE = 4096, STACK = 65536 };
+
+/* What the run is at, for the report of a fault. */
+static const char *doing = "";
+static size_t now_case, now_round;
+
+/* A report that is safe inside a signal handler. */
+static void fault(int number)
+{
+    static const char text[] = ": memory outside what was lent was touched by ";
+    char where[96];
+    int n = snprintf(where, sizeof where, "guard: case %zu, round %zu (signal %d)", now_case, now_round, number);
+    if (write(2, where, (size_t)n) < 0 || write(2, text, sizeof text - 1) < 0 || write(2, doing, strlen(doing)) < 0 || write(2, "\n", 1) < 0)
+        _exit(3);
+    _exit(1);
+}
+
+static void wrong(const char *why)
+{
+    fprintf(stderr, "guard: case %zu, round %zu: %s: %s\n", now_case, now_round, doing, why);
+    exit(1);
+}
+
+/* Pages between two guard pages. */
+typedef struct region {
+    uint8_t *at;
+    size_t len;
+} region;
+
+static region map(size_t most)
+{
+    region r;
+    r.len = (most + PAGE - 1) / PAGE * PAGE + PAGE;
+    uint8_t *all = mmap(NULL, r.len + 2 * PAGE, PROT_NONE, MAP_PRIVATE | MAP_ANONYMOUS, -1, 0);
+    if (all == MAP_FAILED || mprotect(all + PAGE, r.len, PROT_READ | PROT_WRITE) != 0) {
+        perror("guard");
+        exit(2);
+    }
+    r.at = all + PAGE;
+    return r;
+}
+
+/* The first or the last n bytes of a region. */
+static uint8_t *placed(region r, size_t n, int last)
+{
+    return last ? r.at + r.len - n : r.at;
+}
+
+/* ---- calls on the small stack ---- */
+
+static ucontext_t host, guest;
+static region stack;
+static const uint8_t *input;
+static size_t input_len, out_len, start, len;
+static uint8_t *out;
+static laddertick_walk walk;
+static laddertick_answer answer;
+static laddertick_written written;
+
+static void do_step(void) { answer = laddertick_step(input, input_len, walk); }
+static void do_data(void) { written = laddertick_data(input, input_len, start, len, out, out_len); }
+static void do_list(void) { written = laddertick_list(input, input_len, out, out_len); }
+static void do_normalise(void) { written = laddertick_normalise(input, input_len, out, out_len); }
+
+static void call(const char *name, void (*function)(void))
+{
+    doing = name;
+    getcontext(&guest);
+    guest.uc_stack.ss_sp = stack.at;
+    guest.uc_stack.ss_size = stack.len;
+    guest.uc_link = &host;
+    makecontext(&guest, function, 0);
+    swapcontext(&host, &guest);
+}
+
+/* How deep the calls went: the stack is filled with a mark beforehand. */
+static size_t deepest(void)
+{
+    size_t i = 0;
+    while (i < stack.len && stack.at[i] == 0xa5)
+        i++;
+    return stack.len - i;
+}
+
+/* ---- one input ---- */
+
+static region inputs, outs;
+static size_t calls;
+static uint64_t seed;
+
+static uint64_t next(void)
+{
+    seed ^= seed << 13;
+    seed ^= seed >> 7;
+    seed ^= seed << 17;
+    return seed;
+}
+
+/* Room to spare for any answer to this input: a listing has at most 16 bytes a byte. */
+static size_t spare(void)
+{
+    return 16 * input_len + 64;
+}
+
+/* The bytes of n that are no mark. */
+static size_t unmarked(const uint8_t *at, size_t n)
+{
+    size_t k = 0;
+    for (size_t i = 0; i < n; i++)
+        k += at[i] != 0x5a;
+    return k;
+}
+
+/* The calls that write, in a buffer of n bytes. It is marked beforehand, and so is what lies beside it up to more than any answer has. */
+static void lend(const char *name, void (*function)(void), size_t n, int last)
+{
+    size_t most = spare();
+    uint8_t *marked = placed(outs, most, last);
+    out = placed(outs, n, last);
+    out_len = n;
+    memset(marked, 0x5a, most);
+    call(name, function);
+    calls++;
+    size_t kept = written.number == 0 ? written.place : 0;
+    if (kept > n)
+        wrong("a length past the buffer");
+    if (unmarked(marked, (size_t)(out - marked)) + unmarked(out + kept, (size_t)(marked + most - (out + kept))) != 0)
+        wrong("a byte was changed that is not the answer's");
+}
+
+/* Room to spare, just enough, one byte less, none: 15 exactly where it is too short, with the length needed. */
+static void writes(const char *name, void (*function)(void), int last)
+{
+    lend(name, function, spare(), last);
+    laddertick_written whole = written;
+    if (whole.number == LADDERTICK_OUTPUT_TOO_SHORT)
+        wrong("15 with space left");
+    if (whole.number != 0)
+        return;
+    size_t need = whole.place;
+    lend(name, function, need, last);
+    if (written.number != 0 || written.place != need)
+        wrong("15 with space left");
+    for (int k = 0; k < 2 && need > 0; k++) {
+        lend(name, function, k == 0 ? need - 1 : 0, last);
+        if (written.number != LADDERTICK_OUTPUT_TOO_SHORT || written.place != need)
+            wrong("no 15, or another length than is needed");
+    }
+}
+
+static int same(laddertick_walk a, laddertick_walk b)
+{
+    return a.place == b.place && a.x == b.x && a.y == b.y && a.pending == b.pending;
+}
+
+/* A whole walk, the data of each element on the way; then steps from states that no walk need reach. Gives a sum over the answers. */
+static uint64_t walks(int last)
+{
+    uint64_t sum = 0;
+    walk = laddertick_start();
+    do {
+        call("laddertick_step", do_step);
+        calls++;
+        if (answer.kind == LADDERTICK_REFUSED && !same(answer.next, walk))
+            wrong("a refused step did not hand its state back");
+        if (answer.kind != LADDERTICK_REFUSED && answer.kind != LADDERTICK_END && answer.next.place == walk.place && answer.next.pending == walk.pending)
+            wrong("a step that does not move on");
+        sum = sum * 31 + answer.kind + answer.number + answer.place + answer.next.place + (uint32_t)answer.x + answer.data_len;
+        start = answer.data_start;
+        len = answer.data_len;
+        if (len > 0 && (start > input_len || len > input_len - start))
+            wrong("data outside the input");
+        if (len > 0)
+            writes("laddertick_data", do_data, last);
+        walk = answer.next;
+    } while (answer.kind != LADDERTICK_END && answer.kind != LADDERTICK_REFUSED);
+    return sum;
+}
+
+static void states(void)
+{
+    static const size_t ODD[] = {0, 1, 2, SIZE_MAX, SIZE_MAX - 1, (size_t)1 << 63, 16777216, 16777217};
+    for (int k = 0; k < 8; k++) {
+        uint64_t r = next();
+        walk.place = r % 4 == 0 ? ODD[r / 8 % 8] : r / 8 % (input_len + 2);
+        walk.pending = r / 4096 % 4 == 0 ? ODD[r / 65536 % 8] : r / 65536 % (walk.place < input_len ? walk.place + 2 : input_len + 2);
+        walk.x = (int32_t)next();
+        walk.y = (int32_t)next();
+        call("laddertick_step", do_step);
+        start = ODD[r % 8] + walk.place;
+        len = next() % 2 == 0 ? ODD[r / 512 % 8] : next() % (input_len + 2);
+        lend("laddertick_data", do_data, spare(), 1);
+        int outside = walk.place > input_len || walk.pending > walk.place;
+        if (outside != (answer.kind == LADDERTICK_REFUSED && answer.number == LADDERTICK_STATE_OUTSIDE))
+            wrong("16 is not told as it should be");
+        if (answer.kind == LADDERTICK_REFUSED && !same(answer.next, walk))
+            wrong("a refused step did not hand its state back");
+        calls++;
+    }
+}
+
+static void hold(const uint8_t *bytes, size_t n)
+{
+    uint64_t sums[2];
+    for (int last = 0; last < 2; last++) {
+        mprotect(inputs.at, inputs.len, PROT_READ | PROT_WRITE);
+        memset(inputs.at, '"', inputs.len);
+        memcpy(placed(inputs, n, last), bytes, n);
+        mprotect(inputs.at, inputs.len, PROT_READ);
+        input = placed(inputs, n, last);
+        input_len = n;
+        sums[last] = walks(last);
+        writes("laddertick_list", do_list, last);
+        sums[last] = sums[last] * 31 + written.number + written.place;
+        writes("laddertick_normalise", do_normalise, last);
+        sums[last] = sums[last] * 31 + written.number + written.place;
+    }
+    doing = "both placements";
+    if (sums[0] != sums[1])
+        wrong("are answered differently");
+    states();
+}
+
+/* A copy with a few bytes changed, lost or doubled. */
+static size_t damaged(uint8_t *to, const uint8_t *from, size_t n)
+{
+    static const uint8_t LIKELY[] = "\n\r ,\"GWNRABbLOSXP019-+\t\x0b\x80\xc2\xa0\xe2\xff";
+    memcpy(to, from, n);
+    for (unsigned k = 1 + next() % 3; k > 0 && n > 0; k--) {
+        size_t at = next() % n;
+        switch (next() % 4) {
+        case 0:
+            to[at] = (uint8_t)next();
+            break;
+        case 1:
+            to[at] = LIKELY[next() % (sizeof LIKELY - 1)];
+            break;
+        case 2:
+            memmove(to + at, to + at + 1, n - at - 1);
+            n--;
+            break;
+        default:
+            n = at;
+        }
+    }
+    return n;
+}
+
+int main(int argc, char **argv)
+{
+    if (argc != 4) {
+        fputs("usage: guard CASES ROUNDS SEED\n", stderr);
+        return 2;
+    }
+    FILE *file = fopen(argv[1], "rb");
+    if (file == NULL) {
+        perror(argv[1]);
+        return 2;
+    }
+    size_t rounds = strtoul(argv[2], NULL, 10);
+    seed = strtoull(argv[3], NULL, 10) | 1;
+    static uint8_t bytes[65536], copy[65536];
+    inputs = map(sizeof bytes);
+    outs = map(16 * sizeof bytes);
+    stack = map(STACK - PAGE);
+    memset(stack.at, 0xa5, stack.len);
+    /* A fault on the small stack itself must still be told. */
+    static uint8_t own[65536];
+    stack_t alternative = {.ss_sp = own, .ss_size = sizeof own};
+    sigaltstack(&alternative, NULL);
+    struct sigaction act = {.sa_handler = fault, .sa_flags = SA_ONSTACK};
+    sigaction(SIGSEGV, &act, NULL);
+    sigaction(SIGBUS, &act, NULL);
+    uint8_t head[4];
+    size_t most = 0;
+    while (fread(head, 1, 4, file) == 4) {
+        size_t n = (size_t)head[0] << 24 | (size_t)head[1] << 16 | (size_t)head[2] << 8 | head[3];
+        if (n > sizeof bytes || fread(bytes, 1, n, file) != n) {
+            fprintf(stderr, "guard: %s: no case of %zu bytes\n", argv[1], n);
+            return 2;
+        }
+        now_case++;
+        hold(bytes, n);
+        for (now_round = 1; now_round <= rounds; now_round++)
+            hold(copy, damaged(copy, bytes, n));
+        now_round = 0;
+        if (n > most)
+            most = n;
+    }
+    printf("%zu inputs of up to %zu bytes, each with %zu damaged copies: %zu calls, none outside what was lent; deepest stack %zu bytes\n", now_case, most, rounds,
+           calls, deepest());
+    return 0;
+}

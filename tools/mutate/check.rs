@@ -1,0 +1,96 @@
+//! A working copy of the repository below target/mutate, and what `rt check` says of an edit there.
+
+use std::fs;
+use std::path::{Path, PathBuf};
+use std::process::Command;
+
+/// What becomes of an edit.
+#[derive(Clone, Copy, PartialEq, Eq, Debug)]
+pub enum Verdict {
+    Refused,
+    /// The prover met a limit of its own, or of time.
+    Unclear,
+    /// It does not pass the types or the borrow checker, so nothing was asked of the prover.
+    NoProgram,
+    /// A program that is proved and then writes something else than its file `stdout`.
+    RunDiffers,
+    Survived,
+    /// `rt` itself failed.
+    Broken,
+}
+
+pub const VERDICTS: [(Verdict, &str); 6] = [
+    (Verdict::Refused, "refused"),
+    (Verdict::Unclear, "could not tell"),
+    (Verdict::NoProgram, "no program"),
+    (Verdict::RunDiffers, "refused by its run"),
+    (Verdict::Survived, "SURVIVED"),
+    (Verdict::Broken, "rt failed"),
+];
+
+/// A folder with the crates and what `rt` keeps of their proofs.
+pub struct WorkingCopy {
+    root: PathBuf,
+}
+
+impl WorkingCopy {
+    /// Copies the repository, or another copy. What stood there goes.
+    pub fn make(from: &Path, to: &Path) -> WorkingCopy {
+        let _ = fs::remove_dir_all(to);
+        fs::create_dir_all(to.join("target/kept")).expect("a folder below target/mutate");
+        for part in ["crates", "crates.txt", "target/rlib", "target/stamp", "target/log"] {
+            let status = Command::new("cp").arg("-a").arg(from.join(part)).arg(to.join(part)).status();
+            assert!(status.is_ok_and(|s| s.success()), "{part} cannot be copied to {}", to.display());
+        }
+        WorkingCopy { root: to.into() }
+    }
+
+    /// `rt check` of crates as they stand: what it prints, and whether all are proved.
+    pub fn check(&self, crates: &[String], seconds: u64) -> (String, bool) {
+        let mut command = Command::new("timeout");
+        command.arg(seconds.to_string()).args(["rt", "check"]).args(crates).current_dir(&self.root).env("RT_JOBS", "1");
+        let output = command.output().expect("the commands timeout and rt");
+        let said = [output.stdout, output.stderr].concat();
+        (String::from_utf8_lossy(&said).into_owned(), output.status.success())
+    }
+
+    /// `rt check` of a crate with another text in one of its files: the verdict, and what `rt` said. Then all is as it was, the file, the
+    /// stamp and the proved library.
+    pub fn verdict(&self, crate_name: &str, path: &str, new: &str, seconds: u64) -> (Verdict, String) {
+        let file = self.root.join("crates").join(crate_name).join(path);
+        let stamp = self.root.join("target/stamp").join(crate_name);
+        let library = self.root.join("target/rlib").join(format!("{crate_name}.rlib"));
+        let kept = self.root.join("target/kept").join(crate_name);
+        let [old_text, old_stamp] = [&file, &stamp].map(|path| fs::read(path).expect("a file of the copy"));
+        let is_library = fs::rename(&library, &kept).is_ok();
+        fs::write(&file, new).expect("the file of the edit");
+        let (said, proved) = self.check(&[crate_name.into()], seconds);
+        fs::write(&file, old_text).expect("the file of the edit");
+        let _ = fs::remove_dir_all(&library);
+        if is_library {
+            fs::rename(&kept, &library).expect("the proved library");
+        }
+        fs::write(&stamp, old_stamp).expect("the stamp");
+        (read(crate_name, &said, proved), said)
+    }
+}
+
+/// `rt` says in words which of its exit statuses the prover had. No line `logic=` means that the code did not get as far.
+fn read(crate_name: &str, said: &str, proved: bool) -> Verdict {
+    let line = |start: &str| said.lines().any(|line| line.starts_with(start));
+    if proved {
+        Verdict::Survived
+    } else if line(&format!("rt: {crate_name} proved, and its run FAILED")) {
+        Verdict::RunDiffers
+    } else if line(&format!("rt: {crate_name} NOT PROVED (exit 1,")) {
+        if line("logic=not-proved") {
+            Verdict::Refused
+        } else {
+            Verdict::NoProgram
+        }
+    } else if line(&format!("rt: {crate_name} NOT PROVED (exit 3,")) || !line("rt: FAILED") {
+        Verdict::Unclear
+    } else {
+        Verdict::Broken
+    }
+}

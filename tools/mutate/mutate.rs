@@ -1,0 +1,134 @@
+//! The mutation run. It makes small edits to the code of functions that have a contract, one at a time, as a slip of the hand would: another
+//! comparison, another constant, a condition dropped, two fields swapped, one too many. Each is made in a copy of the repository below
+//! target/mutate, where `rt check` proves its crate again; contracts, definitions and proofs stay as they are. The prover must refuse it.
+//!
+//! A survivor is an edit with which the crate is still proved. Either it changes nothing that can be seen (`a < b` and `a <= b` choose
+//! the same of two equal numbers), or the contract is too weak: a wrong program meets it too.
+//! An edit that does not pass the types or the borrow checker is no program; the next edit of its function is tried instead.
+//!
+//! A refusal tells that code, contract and proof no longer fit together. Whether an edit changes what the code does is not looked at: one
+//! that changes nothing may be refused too, since the proof was written for the other form.
+//!
+//! tokens, source: the code as tokens and functions. body, edits: the edits that a function allows. plan: which are tried. check: what
+//! `rt` says of one. run: the jobs. report: target/mutate/report.txt, and the table at the end.
+
+mod body;
+mod check;
+mod edits;
+mod plan;
+mod report;
+mod run;
+mod source;
+mod tokens;
+
+use check::{Verdict, WorkingCopy};
+use plan::{plan, Plan, Subject};
+use report::Report;
+use run::Run;
+use source::Sources;
+use std::fs;
+use std::path::{Path, PathBuf};
+use std::process::exit;
+
+/// The seconds of a program's check: it has no library.
+const OF_A_PROGRAM: u64 = 25;
+
+struct Options {
+    crates: Vec<String>,
+    most: usize,
+    jobs: usize,
+    seed: u64,
+    resume: bool,
+    plan: bool,
+}
+
+fn main() {
+    let root = std::env::current_dir().expect("a current folder");
+    let listed = source::listed_crates(&root);
+    let options = options(&listed).unwrap_or_else(|| {
+        eprintln!("usage: tools/mutate/run [--crates A,B] [--most N] [--jobs J] [--seed S] [--resume] [--plan]");
+        exit(2)
+    });
+    let sources = Sources::read(&root, &listed);
+    let seconds = listed.iter().map(|name| (name.clone(), seconds_of(&root, name))).collect();
+    let plan = plan(&sources, &options.crates, &seconds, options.most, options.seed);
+    if options.plan {
+        return print_plan(&sources, &plan);
+    }
+    let copies = copies(&root, &options);
+    let report = Report::open(root.join("target/mutate"), options.resume);
+    let results = Run::new(&sources, &plan, &seconds, report).on(&copies);
+    let summary = report::summary(&plan.subjects, &results);
+    fs::write(root.join("target/mutate/summary.txt"), &summary).expect("the summary");
+    print!("{summary}");
+    let left = |verdict: &Verdict| ![Verdict::Refused, Verdict::RunDiffers, Verdict::NoProgram].contains(verdict);
+    exit(results.iter().any(|(_, _, verdict)| left(verdict)) as i32);
+}
+
+fn options(listed: &[String]) -> Option<Options> {
+    let mut options = Options { crates: listed.to_vec(), most: 180, jobs: 2, seed: 1, resume: false, plan: false };
+    let mut words = std::env::args().skip(1);
+    while let Some(word) = words.next() {
+        match word.as_str() {
+            "--crates" => options.crates = words.next()?.split(',').map(String::from).collect(),
+            "--most" => options.most = words.next()?.parse().ok()?,
+            "--jobs" => options.jobs = words.next()?.parse().ok().filter(|&jobs| jobs > 0)?,
+            "--seed" => options.seed = words.next()?.parse().ok()?,
+            "--resume" => options.resume = true,
+            "--plan" => options.plan = true,
+            _ => return None,
+        }
+    }
+    let unknown = options.crates.iter().find(|name| !listed.contains(name));
+    unknown.inspect(|name| eprintln!("{name} is not listed in crates.txt")).is_none().then_some(options)
+}
+
+/// About how many seconds a crate's check takes: the megabytes of its proved library, which do not change from run to run.
+fn seconds_of(root: &Path, name: &str) -> u64 {
+    let library = root.join(format!("target/rlib/{name}.rlib"));
+    if library.exists() {
+        (size(&library) / 1_000_000).max(10)
+    } else {
+        OF_A_PROGRAM
+    }
+}
+
+fn size(path: &Path) -> u64 {
+    let Ok(entries) = fs::read_dir(path) else { return fs::metadata(path).map_or(0, |file| file.len()) };
+    entries.flatten().map(|entry| size(&entry.path())).sum()
+}
+
+/// A copy for each job. The first proves what is stale, so that an edit's check proves the edited crate alone.
+fn copies(root: &Path, options: &Options) -> Vec<WorkingCopy> {
+    let proved = |name: &String| root.join("target/stamp").join(name).exists();
+    if !root.join("target/rlib").is_dir() || !options.crates.iter().all(proved) {
+        eprintln!("the crates are not proved: run rt check first");
+        exit(2);
+    }
+    let folder = |job: usize| -> PathBuf { root.join(format!("target/mutate/{job}")) };
+    let first = WorkingCopy::make(root, &folder(0));
+    let (said, proved) = first.check(&options.crates, 7200);
+    if !proved {
+        eprintln!("{said}the crates are not proved as they stand");
+        exit(2);
+    }
+    let others = (1..options.jobs).map(|job| WorkingCopy::make(&folder(0), &folder(job)));
+    others.chain([first]).collect()
+}
+
+fn print_plan(sources: &Sources, plan: &Plan) {
+    for subject in &plan.subjects {
+        for edit in &subject.edits[..subject.wanted] {
+            println!("{}", report::name(sources, subject, edit));
+        }
+    }
+    let of = |wanted: fn(&Subject) -> bool| plan.subjects.iter().filter(|s| wanted(s)).count();
+    let all: usize = plan.subjects.iter().map(|s| s.edits.len()).sum();
+    println!(
+        "{} edits of {all}, over {} of {} functions; {} have none",
+        plan.order.len(),
+        of(|s| s.wanted > 0),
+        plan.subjects.len(),
+        of(|s| s.edits.is_empty())
+    );
+}
