@@ -45,21 +45,34 @@ fn room(size: usize) -> Vec<u8> {
     vec![0; size + size / 6 + 1]
 }
 
-/// Nanoseconds a byte: the best of many calls.
-fn time(function: &Function, input: &[u8]) -> f64 {
-    let mut out = room(input.len());
+/// Nanoseconds a byte: the best of many turns, each over all the inputs, one after the other.
+fn time_all(function: &Function, inputs: &[Vec<u8>]) -> f64 {
+    let bytes: usize = inputs.iter().map(Vec::len).sum();
+    let mut outs: Vec<Vec<u8>> = inputs.iter().map(|input| room(input.len())).collect();
     let (mut best, begun) = (Duration::MAX, Instant::now());
-    let mut calls = 0;
-    while calls < 3 || (begun.elapsed() < Duration::from_millis(400) && calls < 1000) {
+    let mut turns = 0;
+    while turns < 3 || (begun.elapsed() < Duration::from_millis(400) && turns < 1000) {
         let start = Instant::now();
-        black_box(measured(function, input, &mut out));
+        for (input, out) in inputs.iter().zip(&mut outs) {
+            black_box(measured(function, input, out));
+        }
         best = best.min(start.elapsed());
-        calls += 1;
+        turns += 1;
         if begun.elapsed() > Duration::from_secs(10) {
             break;
         }
     }
-    best.as_nanos() as f64 / input.len() as f64
+    best.as_nanos() as f64 / bytes as f64
+}
+
+fn time(function: &Function, input: &[u8]) -> f64 {
+    time_all(function, &[input.to_vec()])
+}
+
+/// How many times the time of a file of 1 MiB a file of 16 MiB takes. Sixteen files of 1 MiB stand for the one, so that neither finds its bytes in a cache.
+fn growth(function: &Function, kind: &Kind) -> f64 {
+    let small: Vec<Vec<u8>> = (0..16).map(|_| (kind.make)(MIB)).collect();
+    16.0 * time(function, &(kind.make)(16 * MIB)) / time_all(function, &small)
 }
 
 /// The Rust takes minutes to hours on hostile blocks of more than this.
@@ -80,7 +93,6 @@ fn table(ours: &Function, rust: &Function) -> Vec<[(f64, f64); SIZES.len()]> {
         for (figure, size) in figures.iter_mut().zip(SIZES) {
             *figure = row(kind, size, ours, rust);
         }
-        println!("| {} | 1 to 16 MiB | {:.1} times the time | | |", kind.name, 16.0 * figures[2].0 / figures[1].0);
         rows.push(figures);
     }
     rows
@@ -111,6 +123,20 @@ fn hostile() {
     }
 }
 
+/// The growth of every kind. Gives the greatest of ours.
+fn grown() -> f64 {
+    println!("\n16 MiB, times the time of 1 MiB\n");
+    println!("| input | walk | normalise |");
+    println!("|---|---|---|");
+    let mut most: f64 = 0.0;
+    for kind in KINDS {
+        let [walk, normalise] = [&WALK, &NORMALISE].map(|function| growth(function, kind));
+        println!("| {} | {walk:.1} | {normalise:.1} |", kind.name);
+        most = most.max(walk).max(normalise);
+    }
+    most
+}
+
 fn times() {
     let walks = table(&WALK, &PARSE);
     let texts = table(&NORMALISE, &FORMAT);
@@ -120,14 +146,14 @@ fn times() {
     let copies = SIZES.map(|size| time(&COPY, &(KINDS[graphics].make)(size)));
     println!("{}", SIZES.iter().zip(copies).map(|(size, ns)| format!("{}: {ns:.3}", size_name(*size))).collect::<Vec<_>>().join(", "));
 
+    let grown = grown();
     println!("\nTargets\n");
     let least = |rows: &[(f64, f64)]| rows.iter().map(|(mine, theirs)| theirs / mine).fold(f64::MAX, f64::min);
     target("the walk on labels, times as fast as parse, at least 4", least(&walks[0]), |r| r >= 4.0);
     target("normalise on graphics, times as fast as format_epl, at least 2", least(&texts[graphics]), |r| r >= 2.0);
     let beside = texts[graphics].iter().zip(copies).map(|((mine, _), copy)| mine / copy).fold(0.0, f64::max);
     target("normalise on graphics, times the time of a copy, at most 3", beside, |r| r <= 3.0);
-    let growth = walks.iter().chain(&texts).map(|row| 16.0 * row[2].0 / row[1].0).fold(0.0, f64::max);
-    target("16 MiB, times the time of 1 MiB, at most 18", growth, |r| r <= 18.0);
+    target("16 MiB, times the time of 1 MiB, at most 18", grown, |r| r <= 18.0);
 }
 
 fn target(words: &str, figure: f64, met: impl Fn(f64) -> bool) {

@@ -7,10 +7,10 @@ use native.Mathlib.Numerals.{add-one}
 use native.Mathlib.Omega.{arith}
 use lib.ListN.{length, getD, take, length-append}
 use lib.Seq.{sets, take-suc, take-all}
-use Rattle.text.specs.Wrote.{Wrote}
+use Rattle.text.specs.Wrote.{Wrote, Put}
 use Rattle.text.proofs.WroteLaws.{wrote-left, wrote}
 use Rattle.element_frames.specs.Hex.{hexes, lineOf}
-use Rattle.element_frames.specs.Put.{Put, PutHex}
+use Rattle.element_frames.specs.Put.{PutHex}
 use Rattle.element_frames.proofs.HexLaws.{hexes-append, length-hexes}
 
 -- from where the first run ends

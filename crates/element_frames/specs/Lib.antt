@@ -2,5 +2,5 @@
 pub mod Frame
 -- 01, "Frames": how a frame is printed
 pub mod Hex
--- bytes stored in a row, and the place after them
+-- digits stored in a row, and the place after them
 pub mod Put

@@ -1,4 +1,4 @@
--- What a writer leaves in a lent buffer.
+-- What a writer of digits leaves in a lent buffer.
 use mathlib.Core.Path.{_≡_}
 use mathlib.Core.List.{List}
 use Prim.Native.Nat.{ℕ, _+_, _*_}
@@ -6,12 +6,7 @@ use lib.ListN.{length}
 use Rattle.text.specs.Wrote.{Wrote}
 use Rattle.element_frames.specs.Hex.{hexes}
 
--- n is l with bs stored from at on, and r is the place after them
-pub record Put (n l : List ℕ) (at : ℕ) (bs : List ℕ) (r : ℕ) : Type 0 where
-  pub wrote : Wrote n l at bs
-  pub next : r ≡ at + length bs
-
--- the same of the digits of the k bytes bs
+-- n is l with the digits of the k bytes bs stored from at on, and r is the place after them
 pub record PutHex (n l : List ℕ) (at : ℕ) (bs : List ℕ) (k r : ℕ) : Type 0 where
   pub wrote : Wrote n l at (hexes bs)
   pub many : length bs ≡ k

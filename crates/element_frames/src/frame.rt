@@ -2,9 +2,10 @@
 ghost use mathlib.Core.Path.{_≡_};
 ghost use Prim.Native.Nat.{_+_, _*_, _≤_, min};
 ghost use lib.ListN.{length};
+ghost use Rattle.text.specs.Wrote.{Put};
 ghost use Rattle.element_frames.specs.Frame.{frameOf, countFrame, refusalFrame};
 ghost use Rattle.element_frames.specs.Hex.{lineOf};
-ghost use Rattle.element_frames.specs.Put.{Put, PutHex};
+ghost use Rattle.element_frames.specs.Put.{PutHex};
 use crate::data::with_decoded;
 use crate::data::with_payload;
 use crate::hex::put_byte;

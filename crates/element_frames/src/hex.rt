@@ -4,14 +4,15 @@ ghost use mathlib.Core.Path.{_≡_};
 ghost use Prim.Native.Nat.{_+_, _*_, _<_, _≤_};
 ghost use lib.ListN.{length};
 ghost use Rattle.text.specs.Utf8.{shown, decode};
+ghost use Rattle.text.specs.Wrote.{Put};
 ghost use Rattle.element_frames.specs.Frame.{be32, number, float, sized};
 ghost use Rattle.element_frames.specs.Hex.{digit};
-ghost use Rattle.element_frames.specs.Put.{Put, PutHex};
+ghost use Rattle.element_frames.specs.Put.{PutHex};
 use text::utf8::is_whole;
 use text::utf8::part_len;
 
 // The digit of n.
-pub fn hex_digit(n: u8) -> u8
+fn hex_digit(n: u8) -> u8
     requires { ⌜ n < 16 ⌝ }
     ensures { λ r. ⌜ r ≡ digit n ⌝ }
 {

@@ -2,6 +2,9 @@
 ghost use mathlib.Core.Path.{_≡_};
 ghost use Rattle.elements.specs.Refusals.{numberOf};
 
+// "inputs up to 16,777,216 bytes": a longer one is InputTooLong.
+pub const INPUT_MAX: usize = 16777216;
+
 pub enum Refusal {
     // The author of the label: too few fields,
     TextFields,

@@ -4,11 +4,9 @@ ghost use Rattle.flat.specs.Written.{Flat};
 use crate::written::Written;
 use element_frames::data::part;
 use elements::data_span::DataSpan;
+use elements::refusal::INPUT_MAX;
 use text::utf8::decoded_len;
 use text::utf8::write_decoded;
-
-// "inputs up to 16,777,216 bytes".
-pub const INPUT_MAX: usize = 16777216;
 
 // No byte is decoded to more than three.
 pub const DECODED_MAX: usize = 50331648;

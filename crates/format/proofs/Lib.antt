@@ -1,5 +1,3 @@
--- a buffer on its way
-pub mod Toward
 -- what stands first and the part of it that stays
 pub mod TakesLaws
 -- the normalised text from a place on, and the answer

@@ -1,31 +1,27 @@
 -- The normalised text from a place on, as the loops over the chunks want it, and the answer of `normalise`. Assumes nothing.
-use mathlib.Core.Path.{_≡_, refl, sym, ap, subst, _∙_}
+use mathlib.Core.Path.{_≡_, sym, ap, _∙_}
 use mathlib.Core.List.{List, [], _∷_, _++_}
-use Prim.Native.Nat.{ℕ, zero, suc, _+_, _-_, _*_, _<_, _≤_}
+use Prim.Native.Nat.{ℕ, _+_, _-_, _<_, _≤_}
 use native.Mathlib.Omega.{arith}
 use lib.ListN.{length, set, length-append, length-drop, take, drop, drop-of-length-le}
 use lib.Dec.{ltb}
-use lib.Seq.{length-take-le, drop-drop, sets, length-sets}
+use lib.Seq.{length-take-le, drop-drop, sets}
 use borrow.Author.Tests.{lt-ltb, le-ltb}
-use Rattle.text.specs.Wrote.{Wrote}
+use Rattle.text.specs.Wrote.{Wrote, Put}
 use Rattle.text.proofs.BoolLaws.{test}
 use Rattle.text.proofs.WroteLaws.{wrote, wrote-left}
 use Rattle.elements.specs.declared.refusal.Refusal.{Refusal}
 use Rattle.elements.specs.declared.refusal.Refusal.the-variants.{InputTooLong, OutputTooShort}
 use Rattle.elements.specs.Refusals.{numberOf}
-use Rattle.whole.specs.Given.{bytes, refused}
-use Rattle.whole.specs.Language.{First, none, bad, unit}
-use Rattle.whole.specs.Normal.{each}
+use Rattle.whole.specs.Given.{stored}
 use Rattle.whole.specs.Step.{longest}
-use Rattle.grammar.specs.Units.{EplUnit}
-use Rattle.grammar.specs.Units as units
-use Rattle.grammar.specs.Normal.{normal, chunk, written, normalised}
-use Rattle.grammar.proofs.ChunkLaws.{chunk-sound, normalised-is}
-use Rattle.grammar.proofs.NormalLaws.{normalised-nil, normal-le}
+use Rattle.whole.proofs.GivenLaws.{stored-long, short}
+use Rattle.grammar.specs.Normal.{normalised}
+use Rattle.grammar.proofs.ChunkLaws.{normalised-is}
+use Rattle.grammar.proofs.NormalLaws.{normalised-nil}
 use Rattle.format.specs.declared.normalise.Chunk.{Chunk}
 use Rattle.format.specs.declared.normalise.Normalised.{Normalised}
 use Rattle.format.specs.declared.normalise.Normalised.the-variants.{Bytes, Refused}
-use Rattle.format.specs.Put.{Put}
 use Rattle.format.specs.Normalise.{ended, TakesAt, Formats}
 use Rattle.format.proofs.TakesLaws.{ended-some, ended-none}
 
@@ -100,17 +96,11 @@ pub formats-long : (n l s : List ℕ) (r : Normalised) → Formats n l s r → l
 formats-long n l s r h =
     test (ltb longest (length s))
     (λ e. let b : n ≡ l = h .buffer ∙ (simp e) in ap length b)
-    (λ e.
-    test (ltb (length l) (length (normalised s)))
-    (λ f. let b : n ≡ l = h .buffer ∙ (simp (e, f)) in ap length b)
-    (λ f. let b : n ≡ sets l 0 (normalised s) = h .buffer ∙ (simp (e, f)) in ap length b ∙ length-sets l 0 (normalised s)))
+    (λ e. let b : n ≡ stored (normalised s) l = h .buffer ∙ (simp e) in ap length b ∙ stored-long (normalised s) l)
 
 -- a refusal leaves the buffer as it came
 pub formats-kept : (n l s : List ℕ) (k : Refusal) (p : ℕ) → Formats n l s (Refused k p) → n ≡ l
 formats-kept n l s k p h =
     test (ltb longest (length s))
     (λ e. h .buffer ∙ (simp e))
-    (λ e.
-    test (ltb (length l) (length (normalised s)))
-    (λ f. h .buffer ∙ (simp (e, f)))
-    (λ f. let a : refused (numberOf k) p ≡ bytes (length (normalised s)) = h .answer ∙ (simp (e, f)) in let z : _≡_ {A = ℕ} 0 1 = cc in absurd (omega arith)))
+    (λ e. h .buffer ∙ (simp (e, short (normalised s) l (numberOf k) p (h .answer ∙ (simp e)) .lack)))

@@ -3,11 +3,12 @@
 ghost use mathlib.Core.Path.{_≡_};
 ghost use Prim.Native.Nat.{_+_, _/_, _<_, _≤_};
 ghost use lib.ListN.{length};
+ghost use Rattle.text.specs.Wrote.{Put};
 ghost use Rattle.whole.specs.Step.{longest};
 ghost use Rattle.grammar.specs.Found.{textLine};
 ghost use Rattle.grammar.specs.Normal.{normalised};
-ghost use Rattle.format.specs.Put.{Put};
 ghost use Rattle.format.specs.Normalise.{ended, Takes, TakesAt, Blocks, Formats};
+use elements::refusal::INPUT_MAX;
 use elements::refusal::Refusal;
 use graphics::gw_span::Graphic;
 use graphics::gw_span::gw_span;
@@ -16,9 +17,6 @@ use text::blank::trim_ascii_end;
 use text::blank::trim_ascii_start;
 use text::put::put_bytes;
 use text::scan::find;
-
-// "inputs up to 16,777,216 bytes".
-pub const INPUT_MAX: usize = 16777216;
 
 // The length of a normalised text; or why there is none, and its place.
 pub enum Normalised {

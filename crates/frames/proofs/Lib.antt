@@ -1,5 +1,3 @@
--- a buffer on its way
-pub mod Toward
 -- the listing, as the loops over the steps want it
 pub mod ListingLaws
 -- what the listing program prints

@@ -1,7 +1,6 @@
 -- Laws of the listing, as the loops over the steps want them. Assumes nothing.
-use mathlib.Core.Path.{_≡_, refl, sym, ap, subst, _∙_}
+use mathlib.Core.Path.{_≡_, refl, sym, ap, _∙_}
 use mathlib.Core.List.{List, [], _∷_, _++_}
-use mathlib.Core.Logic.{_⊎_, inl, inr}
 use types.Run.{OneOf, miss}
 use denote.Enum.Declared.{tagOf, declared}
 use Prim.Native.Nat.{ℕ, _+_, _*_, _<_, _≤_, min}
@@ -17,11 +16,11 @@ use Rattle.elements.specs.declared.refusal.Refusal.the-variants.{OutputTooShort
 use Rattle.elements.specs.Refusals.{numberOf}
 use Rattle.element_frames.specs.Frame.{part, frameOf, countFrame}
 use Rattle.element_frames.specs.Hex.{lineOf}
-use Rattle.element_frames.specs.Put.{Put}
 use Rattle.element_frames.proofs.HexLaws.{length-line, length-be32}
 use Rattle.element_frames.proofs.FrameLaws.{length-frame}
 use Rattle.element_frames.proofs.FrameLaws as frame-laws
 use Rattle.text.specs.Utf8.{decode}
+use Rattle.text.specs.Wrote.{Put}
 use Rattle.text.proofs.Utf8Laws.{length-decode-le}
 use Rattle.text.proofs.WroteLaws.{wrote, sets-append}
 use Rattle.whole.specs.Reach.{Final, accepted, refusal}
@@ -36,7 +35,7 @@ use Rattle.walk.specs.declared.state.WalkState.{WalkState}
 use Rattle.walk.specs.declared.state.Step.{Step}
 use Rattle.walk.specs.declared.state.Step.the-variants.{Element, Clear, Print, End, Refused}
 use Rattle.walk.proofs.state.Step.{enum}
-use Rattle.frames.specs.Listing.{FramedLabel, givenOf, linesOf, labelLines, listingOf, outcomeOf, sizeOf, listedOf, bufferOf, Lists, leadOf, labelText, textFrom}
+use Rattle.frames.specs.Listing.{FramedLabel, linesOf, labelLines, listingOf, outcomeOf, sizeOf, Lists, leadOf, textFrom}
 use Rattle.frames.specs.declared.listing.Listed.the-variants as listing
 
 -- ---- the length, as the first pass counts it: of the labels so far, and of what is pending

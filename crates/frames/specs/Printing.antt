@@ -13,9 +13,13 @@ use Rattle.frames.specs.Listing.{listingOf, outcomeOf}
 abbrev pub refusalLine : ℕ → ℕ → List ℕ
 refusalLine n p = lineOf (refusalFrame n p)
 
--- what a walk lists, printed into a buffer of m bytes; 15 where it has no room
+-- a text printed into a buffer of m bytes; 15 where it has no room
+abbrev pub printedIn : List ℕ → ℕ → List ℕ
+printedIn t m = cond (ltb m (length t)) (refusalLine 15 (length t)) t
+
+-- what a walk lists, printed so
 abbrev pub textOf : Outcome (List ℕ) Unit → ℕ → List ℕ
-textOf (listed ls) m = cond (ltb m (length (listingOf ls))) (refusalLine 15 (length (listingOf ls))) (listingOf ls)
+textOf (listed ls) m = printedIn (listingOf ls) m
 textOf (refusal-of n p) m = refusalLine n p
 
 -- "The listing program reads standard input (over 65,536 bytes: 14)"; a buffer of fewer than 13 bytes cannot hold a refusal

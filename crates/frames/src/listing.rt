@@ -2,7 +2,7 @@
 ghost use mathlib.Core.Path.{_≡_};
 ghost use Prim.Native.Nat.{_+_, _≤_};
 ghost use lib.ListN.{length};
-ghost use Rattle.element_frames.specs.Put.{Put};
+ghost use Rattle.text.specs.Wrote.{Put};
 ghost use Rattle.frames.specs.Listing.{linesOf, leadOf, labelText, allText, givenOf, sizeOf, outcomeOf, Lists};
 use element_frames::frame::frame_len;
 use element_frames::frame::put_count;

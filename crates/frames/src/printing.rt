@@ -1,11 +1,10 @@
 // What the listing program prints for an input.
 ghost use lib.ListN.{length};
-ghost use Rattle.element_frames.specs.Put.{Put};
+ghost use Rattle.text.specs.Wrote.{Put};
 ghost use Rattle.frames.specs.Printing.{printedOf};
 use crate::listing::Listed;
 use crate::listing::list;
 use element_frames::frame::put_refusal;
-use elements::refusal::Refusal;
 
 // The longest input of the program.
 pub const PROGRAM_MAX: usize = 65536;

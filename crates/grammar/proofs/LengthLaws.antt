@@ -9,15 +9,15 @@ use lib.Dec.{eqb}
 use lib.ListN.{length, drop, length-take, length-drop, length-reverse}
 use borrow.Author.Tests.{leb-true, ne-eqb}
 use Rattle.text.specs.Blank.{dropWhile, trim}
-use Rattle.text.specs.Fields.{indexOf, before, quoted, ahead, fields, withoutTrailingCommas}
-use Rattle.text.proofs.BoolLaws.{test}
+use Rattle.text.specs.Fields.{indexOf, before, quoted, fields, withoutTrailingCommas}
+use Rattle.text.proofs.DropLaws.{drop-while-le}
+use Rattle.text.proofs.FieldsLaws.{fields-le}
 use Rattle.text.proofs.TrimLaws.{length-trim-le}
 use Rattle.elements.specs.declared.data_span.DataSpan.{DataSpan}
 use Rattle.elements.specs.declared.label_element.LabelElement.{LabelElement}
 use Rattle.elements.specs.declared.label_position.LabelPosition.{LabelPosition}
 use Rattle.elements.specs.Spans.{spans}
 use Rattle.parameters.specs.declared.reading.Reading.the-variants as reading
-use Rattle.graphics.proofs.BlockLaws.{drop-while-le}
 use Rattle.spelling.specs.declared.command.Command.{Command}
 use Rattle.spelling.specs.declared.command.Command.the-variants.{Clear, Reference, Data, Line, Diagonal, Box, Print, Other}
 use Rattle.spelling.specs.declared.command.DataCommand.{DataCommand}
@@ -27,19 +27,6 @@ use Rattle.commands.specs.Line.{paramsOf, spanOf, commandReading, leadOf, readL
 use Rattle.grammar.specs.WellFormed.{atLeast, dataCounted, dataTyped, dataSized, wellFormedAs, wellFormed}
 use Rattle.grammar.proofs.ReadingLaws.{dataOf, yielded}
 use Rattle.grammar.proofs.SpanLaws.{quoted-long, read-some}
-
--- each field but the first has a comma before it
-
-ahead-le : (x : ℕ) (fs : List (List ℕ)) → length (ahead x fs) ≤ suc (length fs)
-ahead-le x [] = omega arith
-ahead-le x (f ∷ fs) = omega arith
-
-fields-le : (s : List ℕ) → length (fields s) ≤ suc (length s)
-unfolding fields
-fields-le [] = omega arith
-fields-le (x ∷ s) =
-    let h = fields-le s in
-    test (eqb x 44) (λ e. simp e (omega arith)) (λ e. simp e (omega (arith, ahead-le x (fields s))))
 
 at-least : (n : ℕ) (s : List ℕ) → atLeast n s ≡ true → n ≤ suc (length s)
 at-least n s h = omega (arith, leb-true n (length (fields s)) h, fields-le s)

@@ -1,7 +1,7 @@
 -- Laws of graphic blocks: one turn of the loop that passes a header field, the parts of a header, and where a block's data lies.
 -- Assumes nothing.
-use mathlib.Core.Path.{_≡_, sym, ap, _∙_}
-use mathlib.Core.Bool.{Bool, true, false, _&&_, _||_, and-true}
+use mathlib.Core.Path.{_≡_, refl, sym, ap, _∙_}
+use mathlib.Core.Bool.{Bool, true, false, not, _&&_, _||_, and-true}
 use mathlib.Core.List.{List, [], _∷_, _++_, append-nil, append-assoc}
 use Prim.Native.Nat.{ℕ, _+_, _-_, _*_, _<_, _≤_}
 use native.Mathlib.Nat.{mul-le-mul}
@@ -14,10 +14,11 @@ use lib.Seq.{drop-cons, drop-drop, take-suc}
 use lib.Signed.{mag, ltZ, nonNeg, natAbs-le}
 use mir.Syntax.{w64}
 use mir.Val.{Fits}
-use borrow.Author.Tests.{ltb-false}
+use borrow.Author.Tests.{ltb-true, ltb-false, ne-eqb, not-true}
 use Rattle.text.specs.Blank.{dropWhile, front}
 use Rattle.text.specs.Fields.{same}
-use Rattle.text.proofs.BoolLaws.{test}
+use Rattle.text.proofs.BoolLaws.{test, and-both}
+use Rattle.text.proofs.DropLaws.{drop-while-le}
 use Rattle.text.proofs.DropSteps.{rest}
 use Rattle.text.proofs.FieldsLaws.{same-length, same-true}
 use Rattle.elements.specs.declared.refusal.Refusal.{Refusal}
@@ -84,6 +85,21 @@ two-here [] a b h = absurd (omega arith)
 two-here (x ∷ []) a b h = absurd (omega arith)
 two-here (x ∷ y ∷ t) a b h = ap (λ (z : Bool). eqb x a && z) (sym (and-true (eqb y b)))
 
+-- a first byte that is neither a blank nor `G`, or none at all
+pub opens-none : (s : List ℕ) → length s ≡ 0 → false ≡ opensGw s
+unfolding opensGw
+opens-none [] h = refl
+opens-none (b ∷ s) h = absurd (omega arith)
+
+pub opens-other : (s : List ℕ) → (length s ≡ 0 → ⊥) → (ltb 32 (getD s 0 0) && not (eqb (getD s 0 0) 71)) ≡ true → false ≡ opensGw s
+unfolding opensGw
+opens-other [] h e = absurd (h refl)
+opens-other (b ∷ s) h e =
+    let k = and-both (ltb 32 b) (not (eqb b 71)) e in
+    let l = ltb-true 32 b (k .0) in
+    let ne : (n : ℕ) → n ≤ 32 → eqb b n ≡ false = λ n m. ne-eqb b n (λ q. omega arith) in
+    simp (ne 32 (omega arith), ne 9 (omega arith), ne 12 (omega arith), ne 13 (omega arith), not-true (eqb b 71) (k .1))
+
 -- the sizes of a graphic
 
 -- one that is not negative keeps its value as a size
@@ -97,10 +113,6 @@ total-fits a b p q =
     record { fits = omega arith }
 
 -- lengths
-
-pub drop-while-le : (q : ℕ → Bool) (s : List ℕ) → length (dropWhile q s) ≤ length s
-drop-while-le q [] = omega arith
-drop-while-le q (b ∷ s) = test (q b) (λ e. simp e (omega (arith, drop-while-le q s))) (λ e. simp e (omega arith))
 
 after-le : (t : List ℕ) → length (afterHeaderField t) ≤ length t
 unfolding afterHeaderField

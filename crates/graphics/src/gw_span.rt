@@ -34,7 +34,7 @@ pub fn trim_line_start(s: &[u8]) -> &[u8]
 }
 
 // What follows the leading blanks begins with `GW`.
-pub fn opens_gw(s: &[u8]) -> bool
+fn gw_behind_blanks(s: &[u8]) -> bool
     ensures { λ r. ⌜ r ≡ opensGw (now (s .entry)) ⌝ }
 {
     let t = trim_line_start(s);
@@ -42,6 +42,20 @@ pub fn opens_gw(s: &[u8]) -> bool
         return false;
     }
     (t[0] == b'G') & (t[1] == b'W')
+}
+
+// The first byte tells most lines: neither a blank nor `G`.
+pub fn opens_gw(s: &[u8]) -> bool
+    ensures { λ r. ⌜ r ≡ opensGw (now (s .entry)) ⌝ }
+{
+    if s.len() == 0 {
+        return false;
+    }
+    let b = s[0];
+    if (0x20 < b) & (b != b'G') {
+        return false;
+    }
+    gw_behind_blanks(s)
 }
 
 // No comma and no LF.
@@ -214,6 +228,9 @@ pub fn read_block(rest: &[u8], at: usize, reference: LabelPosition) -> Block
     requires { ⌜ at + length (now rest) < 18446744073709551616 ⌝ }
     ensures { λ r. ⌜ r ≡ laterBlock at (blockReading (gwSpan (now (rest .entry))) reference) ⌝ }
 {
+    if !opens_gw(rest) {
+        return Block::Nothing;
+    }
     match gw_span(rest) {
         Graphic::Nothing => Block::Nothing,
         Graphic::Refused(n) => Block::Refused(n),

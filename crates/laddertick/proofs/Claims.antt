@@ -1,7 +1,7 @@
 -- The claims hold. Assumes nothing.
 use mathlib.Core.Path.{_≡_, refl, ap, subst, _∙_}
 use mathlib.Core.Bool.{Bool, true, false, cond, _||_}
-use mathlib.Core.List.{List, [], _∷_, _++_}
+use mathlib.Core.List.{List, []}
 use Prim.Native.Nat.{ℕ, _≤_}
 use native.Mathlib.Omega.{arith}
 use lib.Dec.{ltb}
@@ -13,12 +13,11 @@ use Rattle.elements.specs.declared.refusal.Refusal.the-variants.{TextFields, Ba
 use Rattle.elements.specs.Refusals.{numberOf}
 use Rattle.element_frames.specs.Frame.{frameOf}
 use Rattle.element_frames.proofs.FrameLaws.{frame-local}
-use Rattle.whole.specs.Labels.{labels}
 use Rattle.whole.specs.Step.{State, Answer, handing, answer, step, longest}
 use Rattle.whole.specs.Step as step-of
 use Rattle.whole.specs.Reach.{Final, accepted, refusal, Reach, answered}
 use Rattle.whole.specs.Normal.{each, Normal}
-use Rattle.whole.specs.Trace.{ending, listed, refusal-of}
+use Rattle.whole.specs.Trace.{ending, listed}
 use Rattle.whole.specs.Claims.{Local, Walks}
 use Rattle.whole.proofs.DivisionLaws.{unique}
 use Rattle.whole.proofs.Whole.{whole}

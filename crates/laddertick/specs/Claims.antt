@@ -18,7 +18,7 @@ use Rattle.whole.specs.Division.{Division}
 use Rattle.whole.specs.Labels.{labels, labelsOf, Fails}
 use Rattle.whole.specs.Step.{State, Answer, refused, step, longest}
 use Rattle.whole.specs.Reach.{Final, accepted, refusal, Reach, answered}
-use Rattle.whole.specs.Trace.{Outcome, listed, refusal-of}
+use Rattle.whole.specs.Trace.{listed, refusal-of}
 use Rattle.whole.specs.Normal.{each}
 use Rattle.grammar.specs.WellFormed.{wellFormed, faultOf}
 use Rattle.grammar.specs.Units.{EplUnit}

@@ -1,53 +1,23 @@
 -- What is printed, by what `normalise` answered. Assumes nothing.
 use mathlib.Core.Path.{_≡_, refl, sym, ap, subst, _∙_}
-use mathlib.Core.Bool.{cond}
-use mathlib.Core.List.{List, []}
+use mathlib.Core.List.{List}
 use Prim.Native.Nat.{ℕ, _<_, _≤_}
 use native.Mathlib.Omega.{arith}
-use lib.Dec.{ltb}
 use lib.ListN.{length}
-use lib.Seq.{sets}
 use borrow.Author.Tests.{lt-ltb, le-ltb}
-use Rattle.text.proofs.BoolLaws.{test}
+use Rattle.text.specs.Wrote.{Put}
 use Rattle.text.proofs.WroteLaws.{wrote}
 use Rattle.elements.specs.declared.refusal.Refusal.{Refusal}
 use Rattle.elements.specs.Refusals.{numberOf}
-use Rattle.element_frames.specs.Put.{Put}
-use Rattle.whole.specs.Given.{Given, bytes, refused, fitting, stored}
+use Rattle.whole.specs.Given.{fitting, stored}
 use Rattle.grammar.specs.Normal.{normalised}
-use Rattle.frames.specs.Printing.{refusalLine}
+use Rattle.frames.specs.Printing.{refusalLine, printedIn}
+use Rattle.frames.proofs.PrintingLaws.{text-written, text-kept}
 use Rattle.format.specs.Normalise.{givenOf, answerOf, bufferOf, Formats}
 use Rattle.format.specs.declared.normalise.Normalised.{Normalised}
 use Rattle.format.specs.declared.normalise.Normalised.the-variants.{Bytes, Refused}
 use Rattle.grammar.proofs.NormalLaws.{length-normalised-le}
-use Rattle.normalise.specs.Printed.{textOf, printedOf}
-
-bytes≢refused : {k n p : ℕ} → _≡_ {A = Given} (bytes k) (refused n p) → ⊥
-bytes≢refused e = let z : _≡_ {A = ℕ} 0 1 = cc in omega arith
-
--- the text t that fits, or does not
-text-written : (t n l : List ℕ) (k : ℕ) → bytes k ≡ fitting t (length l) → n ≡ stored t l → Put n l 0 (textOf t (length l)) k
-text-written t n l k a b =
-    test (ltb (length l) (length t))
-    (λ e. let x : bytes k ≡ refused 15 (length t) = a ∙ (simp e) in absurd (bytes≢refused x))
-    (λ e.
-    let x : bytes k ≡ bytes (length t) = a ∙ (simp e) in
-    let j : k ≡ length t = cc in
-    simp e (record { wrote = wrote (b ∙ (simp e)); next = omega arith }))
-
-record Kept (t n l : List ℕ) (k p : ℕ) : Type 0 where
-  same : n ≡ l
-  text : textOf t (length l) ≡ refusalLine k p
-
-kept : (t n l : List ℕ) (k p : ℕ) → refused k p ≡ fitting t (length l) → n ≡ stored t l → Kept t n l k p
-kept t n l k p a b =
-    test (ltb (length l) (length t))
-    (λ e.
-    let x : refused k p ≡ refused 15 (length t) = a ∙ (simp e) in
-    let i : 15 ≡ k = cc in
-    let j : length t ≡ p = cc in
-    record { same = b ∙ (simp e); text = simp e (ap (λ (y : ℕ). refusalLine y (length t)) i ∙ ap (refusalLine k) j) })
-    (λ e. let x : refused k p ≡ bytes (length t) = a ∙ (simp e) in absurd (bytes≢refused (sym x)))
+use Rattle.normalise.specs.Printed.{printedOf}
 
 module _ (s l : List ℕ) where
   pub prints-nothing : length l < 13 → Put l l 0 (printedOf s (length l)) 0
@@ -60,7 +30,7 @@ module _ (s l : List ℕ) where
     prints-long g p = simp (le-ltb (length l) 13 h, lt-ltb 65536 (length s) g) p
 
     module _ (g : length s ≤ 65536) where
-      printed-text : printedOf s (length l) ≡ textOf (normalised s) (length l)
+      printed-text : printedOf s (length l) ≡ printedIn (normalised s) (length l)
       unfolding printedOf
       printed-text = simp (le-ltb (length l) 13 h, le-ltb 65536 (length s) g)
 
@@ -75,8 +45,8 @@ module _ (s l : List ℕ) where
 
       pub prints-refusal : (m n : List ℕ) (k : Refusal) (p r : ℕ) (a : Normalised) → a ≡ Refused k p → Formats m l s a → Put n m 0 (refusalLine (numberOf k) p) r → Put n l 0 (printedOf s (length l)) r
       prints-refusal m n k p r a e w q =
-          let o = kept (normalised s) m l (numberOf k) p (ap givenOf (sym e) ∙ w .answer ∙ answer-is) (w .buffer ∙ buffer-is) in
-          rw (printed-text, o .text) (subst (λ (x : List ℕ). Put n x 0 (refusalLine (numberOf k) p) r) (o .same) q)
+          let o = text-kept (normalised s) m l (numberOf k) p (ap givenOf (sym e) ∙ w .answer ∙ answer-is) (w .buffer ∙ buffer-is) in
+          rw (printed-text, o .line) (subst (λ (x : List ℕ). Put n x 0 (refusalLine (numberOf k) p) r) (o .same) q)
 
 -- a buffer of two bytes for each of 65,536 is never too short
 pub never-15 : (s : List ℕ) → length s ≤ 65536 → printedOf s 131072 ≡ normalised s

@@ -1,6 +1,6 @@
 // The normaliser as a program: standard input to standard output. Its buffer holds two bytes for each byte that it reads, which is always enough (`never-15`).
 ghost use lib.ListN.{length};
-ghost use Rattle.element_frames.specs.Put.{Put};
+ghost use Rattle.text.specs.Wrote.{Put};
 ghost use Rattle.normalise.specs.Printed.{printedOf};
 use element_frames::data::part;
 use element_frames::frame::put_refusal;

@@ -1,3 +1,4 @@
 pub mod FloatLaws
 pub mod ParamsLaws
 pub mod PlaceLaws
+pub mod Walks

@@ -1,25 +1,25 @@
 -- Numbers by their place: what a call that read one leaves to the next, and what `number_from` reads.
 -- Assumes nothing.
 use mathlib.Core.Path.{_≡_, refl, sym, ap, _∙_}
-use mathlib.Core.Bool.{true}
+use mathlib.Core.Bool.{true, false, _&&_}
 use mathlib.Core.List.{List}
 use Prim.Native.Nat.{ℕ, suc, _+_, _-_, _*_, _<_, _≤_}
 use native.Mathlib.Omega.{arith}
-use lib.Dec.{leb}
+use lib.Dec.{eqb, leb, ltb}
 use lib.IntN.{ℤ, pos}
-use lib.ListN.{length, getD, take, drop, length-drop, length-take, drop-of-length-le}
+use lib.ListN.{length, getD, take, drop, length-drop, length-take, drop-of-length-le, List·getD-eq-default}
 use lib.Seq.{drop-drop}
-use borrow.Author.Tests.{leb-true, leb-false}
+use borrow.Author.Tests.{eqb-true, leb-true, leb-false, ltb-true, ltb-false}
 use Rattle.text.specs.Class.{isDigit}
 use Rattle.text.specs.Fields.{indexOf, before, after}
 use Rattle.text.specs.Int.{maxZ}
 use Rattle.text.specs.Number.{numberOf, fieldOr}
-use Rattle.text.proofs.BoolLaws.{test, within-high}
+use Rattle.text.proofs.BoolLaws.{test, and-both, within-high}
 use Rattle.text.proofs.FieldsLaws.{index-le}
 use Rattle.text.proofs.PlainLaws.{field-digits, index-digit, index-end, index-here, value-digit, value-end}
-use Rattle.parameters.specs.Params.{numberAt, sizeAt, pointAt, placeOf, numberFrom, sizeFrom, pointFrom, Ran}
-use Rattle.parameters.specs.declared.params.Digits.{Digits}
-use Rattle.parameters.specs.declared.params.Numbered.{Numbered}
+use Rattle.parameters.specs.Params.{numberAt, sizeAt, pointAt, placeOf, oneDigit, numberFrom, sizeFrom, pointFrom, Ran}
+use Rattle.parameters.specs.declared.field_reader.Digits.{Digits}
+use Rattle.parameters.specs.declared.field_reader.Numbered.{Numbered}
 use Rattle.parameters.specs.declared.params.Pointed.{Pointed}
 
 -- places
@@ -127,6 +127,33 @@ ran-digit s at v i r h b d =
       place = omega (arith, r .place, index-digit s i v h d);
       digits = r .digits ∙ value-digit s i v h d;
     }
+
+-- a field of one digit
+pub one-none : (s : List ℕ) (at : ℕ) → length s ≤ at + 1 → false ≡ oneDigit s at
+one-none s at h =
+    let z : eqb (getD s (at + 1) 0) 44 ≡ false = ap (λ (x : ℕ). eqb x 44) (List·getD-eq-default s 0 h) in
+    test (isDigit (getD s at 0)) (λ e. sym (λ i. e i && z i)) (λ e. sym (λ i. e i && z i))
+
+module _ (s : List ℕ) (at : ℕ) (told : oneDigit s at ≡ true) where
+  pub one-comma : getD s (at + 1) 0 ≡ 44
+  one-comma = eqb-true (getD s (at + 1) 0) 44 (and-both (isDigit (getD s at 0)) (eqb (getD s (at + 1) 0) 44) told .1)
+
+  pub one-digit : isDigit (getD s at 0) ≡ true
+  one-digit = and-both (isDigit (getD s at 0)) (eqb (getD s (at + 1) 0) 44) told .0
+
+  pub one-inside : at + 1 < length s
+  one-inside =
+      test (ltb (at + 1) (length s))
+      (λ e. ltb-true (at + 1) (length s) e)
+      (λ e. let z = List·getD-eq-default s 0 {n = at + 1} (ltb-false (at + 1) (length s) e) in absurd (omega (arith, one-comma)))
+
+  pub one-is : (d : ℤ) → record { value = pos (getD s at 0 - 48); next = at + 2 } ≡ numberFrom d s at
+  one-is d =
+      let b : Ran s at (record { value = 0; end = at }) = record { low = omega arith; high = omega (arith, one-inside); small = omega arith; place = refl; digits = refl } in
+      let v : 0 * 10 + (getD s at 0 - 48) ≡ getD s at 0 - 48 = omega arith in
+      let n : at + 1 + 1 ≡ at + 2 = omega arith in
+      let r = plain-comma d s at _ (ran-digit s at 0 at b (omega (arith, one-inside)) (omega arith) one-digit) (omega arith) one-inside one-comma in
+      rw (v, n) at r
 
 -- a size by its number, a point by its two
 

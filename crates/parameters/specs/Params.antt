@@ -1,17 +1,19 @@
 -- Fields in order, as the parameter part s is read from its front: the k-th field is the first of what follows k commas.
 use mathlib.Core.Path.{_≡_}
 use Prim.Native.Nat.{ℕ, _+_, _-_, _<_, _≤_}
-use mathlib.Core.Bool.{Bool}
+use mathlib.Core.Bool.{Bool, _&&_}
 use mathlib.Core.List.{List, [], _∷_}
+use lib.Dec.{eqb}
 use lib.IntN.{ℤ, pos}
-use lib.ListN.{length, drop}
+use lib.ListN.{length, getD, drop}
 use Rattle.text.specs.Blank.{trim}
+use Rattle.text.specs.Class.{isDigit}
 use Rattle.text.specs.Fields.{indexOf, before, after, same}
 use Rattle.text.specs.Int.{maxZ}
 use Rattle.text.specs.Number.{valueFrom, fieldOr}
 use Rattle.elements.specs.declared.label_position.LabelPosition.{LabelPosition}
-use Rattle.parameters.specs.declared.params.Numbered.{Numbered}
-use Rattle.parameters.specs.declared.params.Digits.{Digits}
+use Rattle.parameters.specs.declared.field_reader.Numbered.{Numbered}
+use Rattle.parameters.specs.declared.field_reader.Digits.{Digits}
 use Rattle.parameters.specs.declared.params.Pointed.{Pointed}
 
 -- the number in the first field, or its default
@@ -43,6 +45,10 @@ placeOf s t = length s - length t
 -- a number, and the place behind its comma
 unfoldable pub numberFrom : ℤ → List ℕ → ℕ → Numbered
 numberFrom d s at = record { value = numberAt d (drop at s); next = placeOf s (after 44 (drop at s)) }
+
+-- a field of one digit, closed by a comma
+abbrev pub oneDigit : List ℕ → ℕ → Bool
+oneDigit s at = isDigit (getD s at 0) && eqb (getD s (at + 1) 0) 44
 
 -- the same where the least value is 1
 unfoldable pub sizeFrom : ℤ → List ℕ → ℕ → Numbered

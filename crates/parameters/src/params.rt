@@ -1,85 +1,51 @@
 // The parameter part of a command, field by field: a slice and the place of the next field, so that each byte is looked at once.
+// A field reader is made at the place and passed on: to whoever calls these functions, their parameters are plain.
 ghost use mathlib.Core.Path.{_≡_};
-ghost use Prim.Native.Nat.{_≤_};
 ghost use lib.Dec.{leb};
 ghost use lib.ListN.{length, drop};
 ghost use Rattle.text.specs.Fields.{fields};
-ghost use Rattle.parameters.specs.Params.{Ran, numberFrom, sizeFrom, pointFrom, typeAt, exactly};
+ghost use Rattle.parameters.specs.Params.{oneDigit, numberFrom, sizeFrom, pointFrom, typeAt, exactly};
+use crate::field_reader::Numbered;
+use crate::field_reader::new;
+use crate::field_reader::next_number;
+use crate::field_reader::rest;
 use elements::label_position::LabelPosition;
 use text::blank::trim;
 use text::class::is_digit;
 use text::fields::first_field;
 use text::int::max;
-use text::number::number_or;
-use text::scan::find;
 
-// A number field's value, and the place of what follows its comma.
-pub struct Numbered {
-    pub value: i32,
-    pub next: usize,
-}
-
-// The value of digits, and where they end.
-struct Digits {
-    value: u32,
-    end: usize,
-}
-
-// The digits from at on, as far as nine are enough to say their value.
-fn digits_from(s: &[u8], at: usize) -> Digits
-    requires { ⌜ at ≤ length (now s) ⌝ }
-    ensures { λ r. ⌜ Ran (now (s .entry)) at r ⌝ }
-{
-    let mut value: u32 = 0;
-    let mut end = at;
-    while end < s.len() && value < 100000000 && is_digit(s[end]) {
-        value = value * 10 + ((s[end] - 48) as u32);
-        end += 1;
-    }
-    Digits { value, end }
-}
-
-// The slow way, for any field: blanks, a sign, many digits, or no number.
-fn any_from(s: &[u8], at: usize, default: i32) -> Numbered
-    requires { ⌜ at ≤ length (now s) ⌝ }
+// The number in the field at a place, or the default.
+pub fn field_from(s: &[u8], at: usize, default: i32) -> Numbered
     ensures { λ r. ⌜ r ≡ numberFrom default (now (s .entry)) at ⌝ }
 {
-    let end = at + find(&s[at..], b',');
-    let value = number_or(&s[at..end], default);
-    if end < s.len() {
-        return Numbered {
-            value,
-            next: end + 1,
-        };
-    }
-    Numbered { value, next: end }
+    next_number(new(s, at), default)
 }
 
-// The number in the field at a place, or the default. A few digits, which most fields are, say their value as they stand.
+// One digit and a comma stand at a place.
+fn is_one_digit(s: &[u8], at: usize) -> bool
+    ensures { λ r. ⌜ r ≡ oneDigit (now (s .entry)) at ⌝ }
+{
+    if s.len() < 2 {
+        return false;
+    }
+    if s.len() - 2 < at {
+        return false;
+    }
+    is_digit(s[at]) & (s[at + 1] == b',')
+}
+
+// The same as `field_from`; one digit, which many fields are, is told at once.
 pub fn number_from(s: &[u8], at: usize, default: i32) -> Numbered
     ensures { λ r. ⌜ r ≡ numberFrom default (now (s .entry)) at ⌝ }
 {
-    if s.len() < at {
+    if is_one_digit(s, at) {
         return Numbered {
-            value: default,
-            next: s.len(),
+            value: (s[at] - 48) as i32,
+            next: at + 2,
         };
     }
-    let d = digits_from(s, at);
-    let end = d.end;
-    let value = d.value as i32;
-    if at < end {
-        if end == s.len() {
-            return Numbered { value, next: end };
-        }
-        if s[end] == b',' {
-            return Numbered {
-                value,
-                next: end + 1,
-            };
-        }
-    }
-    any_from(s, at, default)
+    field_from(s, at, default)
 }
 
 // The same where the least value is 1.
@@ -117,10 +83,7 @@ pub fn point_from(s: &[u8], at: usize) -> Pointed
 pub fn rest_from(s: &[u8], at: usize) -> &[u8]
     ensures { λ r. ⌜ now r ≡ drop at (now (s .entry)) ⌝ }
 {
-    if s.len() < at {
-        return &s[..0];
-    }
-    &s[at..]
+    rest(new(s, at))
 }
 
 // The first field, its blanks off.

@@ -2,8 +2,8 @@
 ghost use mathlib.Core.Path.{_≡_};
 ghost use Rattle.spelling.specs.Reference.{referenceOf};
 use elements::label_position::LabelPosition;
+use parameters::params::field_from;
 use text::fields::after_field;
-use text::fields::first_field;
 use text::number::number_or;
 use text::scan::find;
 
@@ -12,7 +12,8 @@ use text::scan::find;
 pub fn parse_epl_reference(params: &[u8], reference: LabelPosition) -> LabelPosition
     ensures { λ r. ⌜ r ≡ referenceOf (now (params .entry)) reference ⌝ }
 {
-    let x = number_or(first_field(params), 0);
+    let first = field_from(params, 0, 0);
+    let x = first.value;
     if find(params, b',') == params.len() {
         return LabelPosition { x, y: reference.y };
     }

@@ -142,6 +142,18 @@ pub count-none : (s : List ℕ) (i : ℕ) → length s ≤ i → length (fields 
 unfolding fields
 count-none s i h = rw (drop-of-length-le s)
 
+-- each field but the first has a comma before it
+ahead-le : (x : ℕ) (fs : List (List ℕ)) → length (ahead x fs) ≤ suc (length fs)
+ahead-le x [] = omega arith
+ahead-le x (f ∷ fs) = omega arith
+
+pub fields-le : (s : List ℕ) → length (fields s) ≤ suc (length s)
+unfolding fields
+fields-le [] = omega arith
+fields-le (x ∷ s) =
+    let h = fields-le s in
+    test (eqb x 44) (λ e. simp e (omega arith)) (λ e. simp e (omega (arith, ahead-le x (fields s))))
+
 -- same
 
 pub same-refl : (a : List ℕ) → same a a ≡ true
@@ -160,13 +172,3 @@ same-true (x ∷ a) (y ∷ b) h =
 
 pub same-length : (a b : List ℕ) → (length a ≡ length b → ⊥) → same a b ≡ false
 same-length a b h = test (same a b) (λ e. absurd (h (ap length (same-true a b e)))) (λ e. e)
-
-module _ (a b : List ℕ) (i : ℕ) (p : i < length a) (q : i < length b) where
-  pub same-differ : (getD a i 0 ≡ getD b i 0 → ⊥) → same (drop i a) (drop i b) ≡ false
-  same-differ h = rw (drop-cons a i 0 p, drop-cons b i 0 q) (simp (ne-eqb (getD a i 0) (getD b i 0) h))
-
-  pub same-step : getD a i 0 ≡ getD b i 0 → same (drop i a) (drop i b) ≡ same (drop (i + 1) a) (drop (i + 1) b)
-  same-step h = rw (add-one, drop-cons a i 0 p, drop-cons b i 0 q) (simp (eq-eqb (getD a i 0) (getD b i 0) h))
-
-pub same-end : (a b : List ℕ) (i : ℕ) → length a ≤ i → length b ≤ i → same (drop i a) (drop i b) ≡ true
-same-end a b i p q = rw (drop-of-length-le a p, drop-of-length-le b q)

@@ -1,5 +1,6 @@
 pub mod BoolLaws
 pub mod WroteLaws
+pub mod Toward
 pub mod Utf8Laws
 pub mod WholeLaws
 pub mod BlankLaws

@@ -9,8 +9,8 @@ use native.Mathlib.Omega.{arith}
 use lib.ListN.{length, getD, take, drop, length-append, length-drop, drop-of-length-le}
 use lib.Seq.{drop-cons, take-all, sets}
 use lib.Dec.{eqb, leb}
-use borrow.Author.Tests.{leb-true, leb-false, le-leb, lt-leb}
-use Rattle.text.specs.Utf8.{within, need, low, high, run, partLen, whole, replacement, shown, decode, PartLen, PutDecoded}
+use borrow.Author.Tests.{leb-true, leb-false}
+use Rattle.text.specs.Utf8.{within, need, low, high, run, partLen, whole, replacement, shown, decode, PartLen}
 use Rattle.text.specs.Wrote.{Wrote}
 use Rattle.text.proofs.BoolLaws.{test}
 use Rattle.text.proofs.WroteLaws.{wrote, wrote-left}
@@ -103,20 +103,8 @@ module _ (s t : List ℕ) (k m : ℕ) (h : 0 < length t) (l : PartLen t k) (e : 
   pub count-most : (n most : ℕ) → most - n < m → length (decode s) ≡ n + length (decode t) → most ≡ min most (length (decode s))
   count-most n most p r = let c = length-left t k h l in omega arith
 
-  pub fits-again : (left room : ℕ) → m ≤ left → left + length (decode s) ≡ room + length (decode t)
-      → (length (take (length t - k) (drop k t)) ≤ length s) × (left - m + length (decode s) ≡ room + length (decode (take (length t - k) (drop k t))))
-  fits-again left room p q =
-      let a = left-less t k h l in let c = length-left t k h l in
-      (omega arith, omega arith)
-
-  pub fits-not : (left room : ℕ) → left < m → left + length (decode s) ≡ room + length (decode t) → false ≡ leb (length (decode s)) room
-  fits-not left room p q = let c = length-left t k h l in sym (lt-leb (length (decode s)) room (omega arith))
-
 pub count-end : (s t : List ℕ) (n most : ℕ) → length t ≤ 0 → n ≤ most → length (decode s) ≡ n + length (decode t) → n ≡ min most (length (decode s))
 count-end s t n most h p e = let z = ap length (decode-none t h) in omega arith
-
-pub fits-end : (s t : List ℕ) (left room : ℕ) → length t ≤ 0 → left + length (decode s) ≡ room + length (decode t) → true ≡ leb (length (decode s)) room
-fits-end s t left room h e = let z = ap length (decode-none t h) in sym (le-leb (length (decode s)) room (omega arith))
 
 -- put_part and write_decoded
 
@@ -143,18 +131,3 @@ module _ (s t out out₀ : List ℕ) (o at k m : ℕ) (h : 0 < length t) (l : Pa
 
 pub write-end : (s t out out₀ : List ℕ) (o at : ℕ) → length t ≤ 0 → sets out o (decode t) ≡ sets out₀ at (decode s) → Wrote out out₀ at (decode s)
 write-end s t out out₀ o at h e = wrote (ap (sets out o) (sym (decode-none t h)) ∙ e)
-
--- put_decoded
-module _ (s l : List ℕ) (at : ℕ) where
-  pub put-past : length l < at → PutDecoded s l l at false
-  put-past h = record { says = sym (lt-leb (at + length (decode s)) (length l) (omega arith)); does = refl }
-
-  module _ (h : at ≤ length l) where
-    pub put-full : leb (length (decode s)) (length l - at) ≡ false → PutDecoded s l l at false
-    put-full e = record { says = sym (lt-leb (at + length (decode s)) (length l) (omega (arith, leb-false (length (decode s)) (length l - at) e))); does = refl }
-
-    pub put-fits : leb (length (decode s)) (length l - at) ≡ true → at + length (decode s) ≤ length l
-    put-fits e = omega (arith, leb-true (length (decode s)) (length l - at) e)
-
-    pub put-done : leb (length (decode s)) (length l - at) ≡ true → (n : List ℕ) → Wrote n l at (decode s) → PutDecoded s l n at true
-    put-done e n w = record { says = sym (le-leb (at + length (decode s)) (length l) (put-fits e)); does = w .is }

@@ -12,5 +12,5 @@ pub mod Int
 pub mod Number
 -- a search by places
 pub mod Scan
--- bytes stored in a row
+-- bytes stored in a row, and the place after them
 pub mod Wrote

@@ -1,11 +1,10 @@
 // Where a byte stands in a slice, and the parts that it cuts the slice into. Fields are read one after the other: the rest is handed on.
 ghost use mathlib.Core.Path.{_≡_};
-ghost use lib.ListN.{length};
-ghost use Rattle.text.specs.Fields.{before, after, beforeLast, fields, withoutTrailingCommas, same};
+ghost use Rattle.text.specs.Fields.{before, after, beforeLast, withoutTrailingCommas};
 use crate::scan::find;
 
 // What stands before the first b: all of s where there is none.
-pub fn before(s: &[u8], b: u8) -> &[u8]
+fn before(s: &[u8], b: u8) -> &[u8]
     ensures { λ r. ⌜ now r ≡ before b (now (s .entry)) ⌝ }
 {
     let n = find(s, b);
@@ -13,7 +12,7 @@ pub fn before(s: &[u8], b: u8) -> &[u8]
 }
 
 // What follows the first b: nothing where there is none.
-pub fn after(s: &[u8], b: u8) -> &[u8]
+fn after(s: &[u8], b: u8) -> &[u8]
     ensures { λ r. ⌜ now r ≡ after b (now (s .entry)) ⌝ }
 {
     let n = find(s, b);
@@ -38,21 +37,6 @@ pub fn before_last(s: &[u8], b: u8) -> &[u8]
     &s[..0]
 }
 
-// How many fields there are: one more than commas.
-pub fn field_count(s: &[u8]) -> usize
-    ensures { λ r. ⌜ r ≡ length (fields (now (s .entry))) ⌝ }
-{
-    let mut n = 1;
-    let mut i = 0;
-    while i < s.len() {
-        if s[i] == 44 {
-            n += 1;
-        }
-        i += 1;
-    }
-    n
-}
-
 // The first field, and what follows its comma.
 pub fn first_field(s: &[u8]) -> &[u8]
     ensures { λ r. ⌜ now r ≡ before 44 (now (s .entry)) ⌝ }
@@ -74,21 +58,4 @@ pub fn without_trailing_commas(s: &[u8]) -> &[u8]
         n -= 1;
     }
     &s[..n]
-}
-
-// The same bytes.
-pub fn same(a: &[u8], b: &[u8]) -> bool
-    ensures { λ r. ⌜ r ≡ same (now (a .entry)) (now (b .entry)) ⌝ }
-{
-    if a.len() != b.len() {
-        return false;
-    }
-    let mut i = 0;
-    while i < a.len() {
-        if a[i] != b[i] {
-            return false;
-        }
-        i += 1;
-    }
-    true
 }

@@ -9,7 +9,7 @@ pub enum Checked {
 }
 
 // t, where it has 32 bits.
-pub fn narrow(t: i64) -> Checked
+fn narrow(t: i64) -> Checked
     ensures { λ r. ⌜ r ≡ checked t ⌝ }
 {
     if t < -2147483648 {
@@ -22,19 +22,19 @@ pub fn narrow(t: i64) -> Checked
 }
 
 // The sum, the difference and the product, which 64 bits always hold.
-pub fn plus(a: i32, b: i32) -> i64
+fn plus(a: i32, b: i32) -> i64
     ensures { λ r. ⌜ r ≡ a +ℤ b ⌝ }
 {
     (a as i64) + (b as i64)
 }
 
-pub fn minus(a: i32, b: i32) -> i64
+fn minus(a: i32, b: i32) -> i64
     ensures { λ r. ⌜ r ≡ a -ℤ b ⌝ }
 {
     (a as i64) - (b as i64)
 }
 
-pub fn times(a: i32, b: i32) -> i64
+fn times(a: i32, b: i32) -> i64
     ensures { λ r. ⌜ r ≡ a *ℤ b ⌝ }
 {
     (a as i64) * (b as i64)

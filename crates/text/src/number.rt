@@ -12,12 +12,12 @@ pub enum Number {
 }
 
 // The value of digits, where it is at most 2^31.
-pub enum Magnitude {
+enum Magnitude {
     Upto(u64),
     Bad,
 }
 
-pub fn digits(s: &[u8]) -> Magnitude
+fn digits(s: &[u8]) -> Magnitude
     ensures { λ r. ⌜ r ≡ capped (digitsOf (now (s .entry))) ⌝ }
 {
     if s.len() == 0 {
@@ -65,7 +65,7 @@ fn with_sign(neg: bool, v: u64) -> Number
     }
 }
 
-pub fn after_sign(neg: bool, s: &[u8]) -> Number
+fn after_sign(neg: bool, s: &[u8]) -> Number
     ensures { λ r. ⌜ r ≡ signed neg (digitsOf (now (s .entry))) ⌝ }
 {
     match digits(s) {
@@ -92,7 +92,7 @@ pub fn parse(s: &[u8]) -> Number
 }
 
 // A field's number: its Unicode blanks off first.
-pub fn field_number(f: &[u8]) -> Number
+fn field_number(f: &[u8]) -> Number
     ensures { λ r. ⌜ r ≡ fieldNumber (now (f .entry)) ⌝ }
 {
     parse(trim(f))

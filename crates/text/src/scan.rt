@@ -1,5 +1,4 @@
 // Finding a byte, sixty-four at a time: a window is looked through with no early exit, so that the compiler can use wide registers.
-ghost use mathlib.Core.Path.{_≡_};
 ghost use Prim.Native.Nat.{_+_, _≤_};
 ghost use lib.ListN.{length};
 ghost use Rattle.text.specs.Fields.{Found};

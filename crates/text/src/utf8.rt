@@ -1,24 +1,22 @@
 // UTF-8, decoded as `from_utf8_lossy` does. A part is a well-formed sequence, or a maximal subpart that is shown as ef bf bd.
 // A byte is looked at three times at most to count and five times to write.
 ghost use mathlib.Core.Path.{_≡_};
-ghost use mathlib.Core.List.{_∷_, []};
 ghost use Prim.Native.Nat.{_+_, _≤_, min};
 ghost use lib.ListN.{length};
-ghost use Rattle.text.specs.Utf8.{within, need, low, high, whole, replacement, shown, decode, PartLen, PutDecoded};
-ghost use lib.Dec.{leb};
+ghost use Rattle.text.specs.Utf8.{within, need, low, high, whole, replacement, shown, decode, PartLen};
 ghost use Rattle.text.specs.Wrote.{Wrote};
 use crate::num::min;
 use crate::put::put_bytes;
 
 // b is one of lo..hi.
-pub fn within(lo: u8, hi: u8, b: u8) -> bool
+fn within(lo: u8, hi: u8, b: u8) -> bool
     ensures { λ r. ⌜ r ≡ within lo hi b ⌝ }
 {
     (lo <= b) & (b <= hi)
 }
 
 // The length of the sequences that begin with a, or 0 where none does.
-pub fn need(a: u8) -> usize
+fn need(a: u8) -> usize
     ensures { λ r. ⌜ r ≡ need a ⌝ }
 {
     if a < 0x80 {
@@ -37,7 +35,7 @@ pub fn need(a: u8) -> usize
 }
 
 // The least byte that may stand second, after a.
-pub fn low(a: u8) -> u8
+fn low(a: u8) -> u8
     ensures { λ r. ⌜ r ≡ low a ⌝ }
 {
     if a == 0xe0 {
@@ -50,7 +48,7 @@ pub fn low(a: u8) -> u8
 }
 
 // The greatest.
-pub fn high(a: u8) -> u8
+fn high(a: u8) -> u8
     ensures { λ r. ⌜ r ≡ high a ⌝ }
 {
     if a == 0xed {
@@ -118,26 +116,8 @@ pub fn decoded_len(s: &[u8], most: usize) -> usize
     n
 }
 
-// s is decoded to room bytes at most. Asks nothing of s.
-pub fn decoded_fits(s: &[u8], room: usize) -> bool
-    ensures { λ r. ⌜ r ≡ leb (length (decode (now (s .entry)))) room ⌝ }
-{
-    let mut left = room;
-    let mut t = s;
-    while 0 < t.len() {
-        let k = part_len(t);
-        let m = shown_len(&t[..k]);
-        if left < m {
-            return false;
-        }
-        left -= m;
-        t = &t[k..];
-    }
-    true
-}
-
 // Stores U+FFFD.
-pub fn put_replacement(out: &mut [u8], at: usize)
+fn put_replacement(out: &mut [u8], at: usize)
     requires { ⌜ at + 3 ≤ length (now out) ⌝ }
     ensures { λ _. ⌜ Wrote (now (out .exit)) (now (out .entry)) at replacement ⌝ }
 {
@@ -147,7 +127,7 @@ pub fn put_replacement(out: &mut [u8], at: usize)
 }
 
 // Stores what the part p is decoded to.
-pub fn put_part(p: &[u8], out: &mut [u8], at: usize)
+fn put_part(p: &[u8], out: &mut [u8], at: usize)
     requires { ⌜ at + length (shown (now p)) ≤ length (now out) ⌝ }
     ensures { λ _. ⌜ Wrote (now (out .exit)) (now (out .entry)) at (shown (now (p .entry))) ⌝ }
 {
@@ -172,18 +152,4 @@ pub fn write_decoded(src: &[u8], out: &mut [u8], at: usize)
         o += m;
         t = &t[k..];
     }
-}
-
-// Stores what src is decoded to, or answers false and stores nothing where there is no room for it.
-pub fn put_decoded(src: &[u8], out: &mut [u8], at: usize) -> bool
-    ensures { λ r. ⌜ PutDecoded (now (src .entry)) (now (out .entry)) (now (out .exit)) at r ⌝ }
-{
-    if out.len() < at {
-        return false;
-    }
-    if !decoded_fits(src, out.len() - at) {
-        return false;
-    }
-    write_decoded(src, out, at);
-    true
 }

@@ -2,7 +2,7 @@
 -- Assumes nothing.
 use mathlib.Core.Path.{_≡_, sym, _∙_, subst}
 use mathlib.Core.Bool.{false, not}
-use Prim.Native.Nat.{ℕ, zero, _*_, _^_, _≤_, _<_}
+use Prim.Native.Nat.{ℕ, _*_, _^_, _≤_, _<_}
 use native.Mathlib.Nat.{le-of-lt, le-trans, le-of-eq, zero-lt-suc, mul-one, one-mul, mul-comm, mul-pos, mul-le-mul-right, mul-le-mul-left}
 use lib.Dec.{T}
 use lib.IntN.{ℤ, pos}

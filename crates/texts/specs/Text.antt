@@ -13,7 +13,6 @@ use Rattle.elements.specs.declared.refusal.Refusal.the-variants as refusal
 use Rattle.texts.specs.declared.fonts.Scaled.{Scaled}
 use Rattle.texts.specs.declared.fonts.Scaled.the-variants as scaled
 use Rattle.parameters.specs.declared.position.Placed.{Placed}
-use Rattle.parameters.specs.declared.position.Placed.the-variants as placing
 use Rattle.parameters.specs.declared.reading.Reading.{Reading}
 use Rattle.parameters.specs.declared.reading.Reading.the-variants as reading
 use Rattle.texts.specs.declared.epl_text.Scale.{Scale}

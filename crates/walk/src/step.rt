@@ -9,10 +9,8 @@ use crate::state::WalkState;
 use crate::unit::UnitReading;
 use crate::unit::read_unit;
 use elements::label_position::LabelPosition;
+use elements::refusal::INPUT_MAX;
 use elements::refusal::Refusal;
-
-// "inputs up to 16,777,216 bytes".
-pub const INPUT_MAX: usize = 16777216;
 
 // The answer at the end of the input: what is pending is printed, then the end.
 fn at_end(at: usize, reference: LabelPosition, n: usize) -> Step

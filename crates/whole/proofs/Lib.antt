@@ -4,3 +4,4 @@ pub mod Whole
 pub mod TurnLaws
 pub mod TraceLaws
 pub mod Again
+pub mod GivenLaws

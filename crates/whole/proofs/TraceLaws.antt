@@ -2,7 +2,7 @@
 use mathlib.Core.Path.{_≡_, refl, sym, ap, subst, _∙_}
 use mathlib.Core.Bool.{Bool, true, false, cond, _||_}
 use mathlib.Core.List.{List, [], _∷_, _++_, append-assoc, append-nil}
-use Prim.Native.Nat.{ℕ, zero, suc, _+_, _-_, _*_, _≤_, _<_}
+use Prim.Native.Nat.{ℕ, zero, suc, _+_, _≤_, _<_}
 use native.Mathlib.Omega.{arith}
 use lib.Dec.{ltb}
 use lib.ListN.{length, length-append, length-drop, drop}
@@ -11,9 +11,8 @@ use Rattle.whole.specs.Language.{First, none, bad, unit, Act, keep, clea
 use Rattle.whole.specs.Division.{Reads}
 use Rattle.whole.specs.Labels.{Label}
 use Rattle.whole.specs.Step.{State, state, Answer, element, cleared, printed, ended, refused, handing, printing, onAct, onFirst, answerBy, answer, step, longest}
-use Rattle.whole.specs.Reach.{Final, accepted, refusal, Then, on-from, over, then, Reach, stop, go-on, answered}
-use Rattle.whole.specs.Trace.{Trace, stops, refuses, yields, clears, prints, final, Outcome, listed, refusal-of, ending, Within, Goes, left, onAnswer, steps, trace, labelsIn, lead, after, outcome}
-use Rattle.whole.specs.Claims.{Walks}
+use Rattle.whole.specs.Reach.{Final, Then, on-from, over, then, Reach, stop, go-on, answered}
+use Rattle.whole.specs.Trace.{Trace, stops, refuses, yields, clears, prints, final, ending, Within, Goes, left, onAnswer, steps, trace, labelsIn, lead, after, outcome}
 
 -- the answer of a step from the place `at` with n pending, `end` being the end of the input, moves on
 abbrev Moves : {R E P : Type 0} → ℕ → ℕ → ℕ → Answer R E P → Type 0

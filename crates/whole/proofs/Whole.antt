@@ -9,7 +9,7 @@ use lib.ListN.{length, length-append}
 use Rattle.whole.specs.Claims.{Local, Walks}
 use Rattle.whole.specs.Language.{First, none, bad, unit, Act, keep, clear, yield, print, outside, Language}
 use Rattle.whole.specs.Division.{Division, done, more, Reads}
-use Rattle.whole.specs.Labels.{Label, Labels, labels, out, flush, Run, goes, leaves, before, andThen, closed, effect, run, labelsOf, InRange, Fails, faulty, beyond, later}
+use Rattle.whole.specs.Labels.{Label, Labels, labels, out, flush, Run, goes, leaves, before, andThen, closed, effect, run, labelsOf, Fails, faulty, beyond, later}
 use Rattle.whole.specs.Step.{state, Answer, ended, printing, answer, handing, step, longest}
 use Rattle.whole.specs.Reach.{Final, accepted, refusal, on-from, over, then, Reach, stop, go-on, answered}
 use Rattle.whole.proofs.DivisionLaws.{unique}

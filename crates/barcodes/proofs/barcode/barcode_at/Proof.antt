@@ -1,7 +1,7 @@
 -- `barcodes::barcode::barcode_at` meets its contract: the type decides, then the position.
 -- Assumes nothing.
 use mathlib.Core.Path.{_≡_, sym, _∙_}
-use mathlib.Core.Bool.{true, false}
+use mathlib.Core.Bool.{true}
 use borrow.Author.Tests.{not-true, not-false}
 use Rattle.text.proofs.IntLaws.{back32}
 use Rattle.parameters.specs.Position.{placed}

@@ -1,6 +1,6 @@
 -- `format::normalise::normalise` meets its contract: 14, 15, or the text is written, which `length-normalised-le` or the measure says has room.
 -- Assumes nothing.
-use mathlib.Core.Path.{refl, ap}
+use mathlib.Core.Path.{refl}
 use mathlib.Core.Logic.{⊎-elim}
 use Prim.Native.Nat.{_≤_}
 use native.Mathlib.Omega.{arith}

@@ -5,10 +5,10 @@ use mathlib.Core.List.{List, _++_}
 use Prim.Native.Nat.{ℕ, _+_, _-_, _≤_}
 use native.Mathlib.Omega.{arith}
 use lib.ListN.{length, drop}
+use Rattle.text.proofs.Toward.{Toward, begin, room, put, finish}
 use Rattle.grammar.specs.Normal.{normalised}
 use Rattle.format.specs.Normalise.{ended}
 use Rattle.format.proofs.NormaliseLaws.{normalised-end, stays, turn}
-use Rattle.format.proofs.Toward.{Toward, begin, room, put, finish}
 use borrow.Author.Needs.{needs}
 use Rattle.format.proofs.normalise.put_chunks.Statement.{statement}
 use Rattle.format.proofs.normalise.put_chunks.Tie as tie

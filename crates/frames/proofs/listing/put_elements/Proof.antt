@@ -1,18 +1,18 @@
 -- `frames::listing::put_elements` meets its contract. Invariant: with the frames that the walk still begins with, the buffer is what it
 -- shall be. Measure: what is left of the walk. Assumes nothing.
-use mathlib.Core.Path.{_≡_, refl, sym, ap, _∙_}
-use mathlib.Core.List.{List, [], _++_}
-use Prim.Native.Nat.{ℕ, _+_, _-_, _*_, _≤_}
+use mathlib.Core.Path.{_≡_, refl, _∙_}
+use mathlib.Core.List.{List}
+use Prim.Native.Nat.{ℕ, _+_, _-_, _*_}
 use native.Mathlib.Omega.{arith}
 use lib.ListN.{length}
+use Rattle.text.proofs.Toward.{Toward, begin, room, put, finish}
 use Rattle.whole.specs.Trace.{lead}
 use Rattle.grammar.specs.Epl.{epl}
 use Rattle.element_frames.specs.Frame.{frameOf}
 use Rattle.element_frames.specs.Hex.{lineOf}
 use Rattle.walk.specs.declared.state.Step.{Step}
-use Rattle.walk.specs.declared.state.Step.the-variants.{Element, Clear, Print, End, Refused}
+use Rattle.walk.specs.declared.state.Step.the-variants.{Element}
 use Rattle.frames.specs.Listing.{linesOf, leadOf}
-use Rattle.frames.proofs.Toward.{Toward, begin, room, put, finish}
 use Rattle.frames.proofs.ListingLaws.{lead-none, onStep, Moved, moved-by, lead-by}
 use borrow.Author.Needs.{needs}
 use Rattle.frames.proofs.listing.put_elements.Statement.{statement}

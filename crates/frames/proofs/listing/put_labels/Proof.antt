@@ -1,10 +1,11 @@
 -- `frames::listing::put_labels` meets its contract. Invariant: with the labels from start on, the buffer is what it shall be; only elements
 -- stand between start and here. Measure: what is left of the walk. Assumes nothing.
 use mathlib.Core.Path.{_≡_, refl, sym, ap, _∙_}
-use mathlib.Core.List.{List, [], _++_}
-use Prim.Native.Nat.{ℕ, _+_, _-_, _*_, _≤_}
+use mathlib.Core.List.{List}
+use Prim.Native.Nat.{ℕ, _+_, _-_, _*_}
 use native.Mathlib.Omega.{arith}
 use lib.ListN.{length}
+use Rattle.text.proofs.Toward.{Toward, begin, retold, room, put, finish}
 use Rattle.whole.specs.Trace.{labelsIn, after}
 use Rattle.grammar.specs.Epl.{epl}
 use Rattle.element_frames.specs.Frame.{frameOf}
@@ -13,7 +14,6 @@ use Rattle.walk.specs.declared.state.WalkState.{WalkState}
 use Rattle.walk.specs.declared.state.Step.{Step}
 use Rattle.walk.specs.declared.state.Step.the-variants.{Element, Clear, Print, End, Refused}
 use Rattle.frames.specs.Listing.{listingOf, labelText, leadOf, textFrom, allText}
-use Rattle.frames.proofs.Toward.{Toward, begin, retold, room, put, finish}
 use Rattle.frames.proofs.ListingLaws.{onStep, Moved, moved-by, text-by, after-by}
 use borrow.Author.Needs.{needs}
 use Rattle.frames.proofs.listing.put_labels.Statement.{statement}

@@ -1,43 +1,25 @@
--- `graphics::gw_span::opens_gw` meets its contract: the first two bytes behind the blanks.
+-- `graphics::gw_span::opens_gw` meets its contract: nothing, another first byte, or what stands behind the blanks.
 -- Assumes nothing.
-use mathlib.Core.Path.{ap, _∙_}
-use mathlib.Core.List.{List, [], _∷_}
-use Prim.Native.Nat.{ℕ}
-use lib.ListN.{take}
+use Rattle.graphics.proofs.BlockLaws.{opens-none, opens-other}
 use borrow.Author.Needs.{needs}
-use Rattle.text.specs.Fields.{same}
-use Rattle.graphics.specs.Block.{opensGw}
-use Rattle.graphics.proofs.BlockLaws.{two-here, two-none}
 use Rattle.graphics.proofs.gw_span.opens_gw.Statement.{statement}
 use Rattle.graphics.proofs.gw_span.opens_gw.Tie as tie
 
-trim-line-start-requires : tie.Need-trim-line-start-requires
-trim-line-start-requires c κs = search needs
-
 returns : tie.Need-returns
-unfolding opensGw
-returns c =
-    let t = c .before .trim-line-start in
-    two-none (t .result .now) 71 87 (c .if1 .taken) ∙ ap (λ (l : List ℕ). same (take 2 l) (71 ∷ 87 ∷ [])) (t .ensures)
+returns c = opens-none (c .before .before .args .s .now) (c .if1 .taken)
 
-shared-slice-read-result : tie.Need-shared-slice-read-result
-shared-slice-read-result c = search needs
-
-shared-slice-read-result-2 : tie.Need-shared-slice-read-result-2
-shared-slice-read-result-2 c = search needs
+shared-slice-read-b : tie.Need-shared-slice-read-b
+shared-slice-read-b c = search needs
 
 returns-2 : tie.Need-returns-2
-unfolding opensGw
-returns-2 c =
-    let t = c .before .before .before .trim-line-start in
-    two-here (t .result .now) 71 87 (c .before .before .if1 .left) ∙ ap (λ (l : List ℕ). same (take 2 l) (71 ∷ 87 ∷ [])) (t .ensures)
+returns-2 c = let e = c .before .before in opens-other (e .before .before .args .s .now) (e .if1 .left) (c .if2 .taken)
+
+gw-behind-blanks-requires : tie.Need-gw-behind-blanks-requires
+gw-behind-blanks-requires c κs = search needs
+
+returns-3 : tie.Need-returns-3
+returns-3 c = search needs
 
 pub opens-gw-spec : {M : Type 1} → statement M
 opens-gw-spec =
-    tie.close
-    (tie.spec
-    trim-line-start-requires
-    returns
-    shared-slice-read-result
-    shared-slice-read-result-2
-    returns-2)
+    tie.close (tie.spec returns shared-slice-read-b returns-2 gw-behind-blanks-requires returns-3)

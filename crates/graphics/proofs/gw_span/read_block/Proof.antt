@@ -3,9 +3,20 @@
 use mathlib.Core.Path.{sym, _∙_}
 use native.Mathlib.Omega.{arith}
 use borrow.Author.Needs.{needs}
+use borrow.Author.Tests.{not-true}
+use Rattle.graphics.specs.Block.{gwSpan}
 use Rattle.graphics.proofs.BlockLaws.{span-fits}
 use Rattle.graphics.proofs.gw_span.read_block.Statement.{statement}
 use Rattle.graphics.proofs.gw_span.read_block.Tie as tie
+
+opens-gw-requires : tie.Need-opens-gw-requires
+opens-gw-requires c κs = search needs
+
+returns : tie.Need-returns
+unfolding gwSpan
+returns c =
+    let o = c .before .opens-gw in
+    simp (sym (o .ensures) ∙ not-true (o .result) (c .if1 .taken))
 
 gw-span-requires : tie.Need-gw-span-requires
 gw-span-requires c κs = search needs
@@ -22,27 +33,29 @@ enum-known-g c = search needs
 graphic-at-requires : tie.Need-graphic-at-requires
 graphic-at-requires c κs =
     let r = c .before .before .before in
-    let f = span-fits (r .before .before .args .rest .now) (c .before .g .given .0 .0) (sym (r .gw-span .ensures) ∙ c .before .g .given .1) in
+    let f = span-fits (r .before .before .before .before .args .rest .now) (c .before .g .given .0 .0) (sym (r .gw-span .ensures) ∙ c .before .g .given .1) in
     (f .start-le, omega arith)
 
-returns : tie.Need-returns
-returns c = simp (sym (c .before .before .gw-span .ensures) ∙ c .enum-told .given .1)
-
 returns-2 : tie.Need-returns-2
-returns-2 c = simp (sym (c .before .before .before .gw-span .ensures) ∙ c .before .n .given .1)
+returns-2 c = simp (sym (c .before .before .gw-span .ensures) ∙ c .enum-told .given .1)
 
 returns-3 : tie.Need-returns-3
-returns-3 c = simp (c .graphic-at .ensures, sym (c .before .before .before .before .gw-span .ensures) ∙ c .before .before .g .given .1)
+returns-3 c = simp (sym (c .before .before .before .gw-span .ensures) ∙ c .before .n .given .1)
+
+returns-4 : tie.Need-returns-4
+returns-4 c = simp (c .graphic-at .ensures, sym (c .before .before .before .before .gw-span .ensures) ∙ c .before .before .g .given .1)
 
 pub read-block-spec : {M : Type 1} → statement M
 read-block-spec =
     tie.close
     (tie.spec
+    opens-gw-requires
+    returns
     gw-span-requires
     enum-told
     enum-known-n
     enum-known-g
     graphic-at-requires
-    returns
     returns-2
-    returns-3)
+    returns-3
+    returns-4)

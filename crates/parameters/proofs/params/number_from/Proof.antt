@@ -1,59 +1,66 @@
--- `parameters::params::number_from` meets its contract: past the end, digits up to the end or a comma, or any field.
--- Assumes nothing.
-use mathlib.Core.Path.{_≡_}
+-- `parameters::params::number_from` meets its contract: one digit, or any field. Assumes nothing.
+use mathlib.Core.Path.{_≡_, sym, _∙_}
+use mathlib.Core.Bool.{true}
+use Prim.Native.Nat.{_+_, _-_, _<_, _≤_}
 use native.Mathlib.Omega.{arith}
-use lib.IntN.{pos}
+use lib.ListN.{length, getD}
 use mir.Syntax.{w32}
-use mir.Val.{toZ}
 use mir.Facts.{toZ-ofZ, toZ-pos}
-use Rattle.parameters.proofs.PlaceLaws.{past-end, plain-comma, plain-end}
+use Rattle.text.proofs.BoolLaws.{within-low, within-high}
+use Rattle.parameters.specs.Params.{oneDigit}
+use Rattle.parameters.proofs.PlaceLaws.{one-digit, one-inside, one-is}
 use borrow.Author.Needs.{needs}
 use Rattle.parameters.proofs.params.number_from.Statement.{statement}
 use Rattle.parameters.proofs.params.number_from.Tie as tie
 
-cast : (d : tie.After-digits-from) → toZ w32 (d .digits-from .result .value) ≡ pos (d .digits-from .result .value)
-cast d = toZ-pos w32 {n = d .digits-from .result .value} (omega arith)
+told : (c : tie.Then1) → let a = c .before .before .before .args in oneDigit (a .s .now) (a .at) ≡ true
+told c = sym (c .before .is-one-digit .ensures) ∙ c .if1 .taken
+
+inside : (c : tie.Then1) → let a = c .before .before .before .args in a .at + 1 < length (a .s .now)
+inside c = let a = c .before .before .before .args in one-inside (a .s .now) (a .at) (told c)
+
+low : (c : tie.Then1) → let a = c .before .before .before .args in 48 ≤ getD (a .s .now) (a .at) 0
+low c = let a = c .before .before .before .args in within-low 48 57 (getD (a .s .now) (a .at) 0) (one-digit (a .s .now) (a .at) (told c))
+
+high : (c : tie.Then1) → let a = c .before .before .before .args in getD (a .s .now) (a .at) 0 ≤ 57
+high c = let a = c .before .before .before .args in within-high 48 57 (getD (a .s .now) (a .at) 0) (one-digit (a .s .now) (a .at) (told c))
+
+is-one-digit-requires : tie.Need-is-one-digit-requires
+is-one-digit-requires c κs = search needs
+
+shared-slice-read-t6 : tie.Need-shared-slice-read-t6
+shared-slice-read-t6 c = omega (arith, inside (c .before))
+
+sub-t7 : tie.Need-sub-t7
+sub-t7 c = omega (arith, low (c .before))
+
+cast-t8 : tie.Need-cast-t8
+cast-t8 c = omega (arith, high (c .before))
+
+add-t9 : tie.Need-add-t9
+add-t9 c = omega (arith, inside (c .before))
 
 returns : tie.Need-returns
-returns c = rw (toZ-ofZ (c .before .before .fits .default)) (past-end _ _ _ (c .if1 .taken))
+returns c =
+    let t = c .before in
+    let a = t .before .before .before .args in
+    rw (toZ-pos w32 {n = getD (a .s .now) (a .at) 0 - 48} (omega (arith, high t))) (one-is (a .s .now) (a .at) (told t) (a .default))
 
-digits-from-requires : tie.Need-digits-from-requires
-digits-from-requires c κs = search needs
-
-cast-value : tie.Need-cast-value
-cast-value c = search needs
+field-from-requires : tie.Need-field-from-requires
+field-from-requires c κs = search needs
 
 returns-2 : tie.Need-returns-2
-returns-2 c = let d = c .before .before .before in rw (cast d) (plain-end _ _ _ _ (d .digits-from .ensures) (c .before .if2 .taken) (c .if3 .taken))
-
-shared-slice-read-if4 : tie.Need-shared-slice-read-if4
-shared-slice-read-if4 c = search needs
-
-add-t14 : tie.Need-add-t14
-add-t14 c = search needs
-
-returns-3 : tie.Need-returns-3
-returns-3 c =
-    let t = c .before .before .before in
-    let d = t .before .before in
-    rw (cast d) (plain-comma _ _ _ _ (d .digits-from .ensures) (t .if2 .taken) (search needs) (c .if4 .taken))
-
-any-from-requires : tie.Need-any-from-requires
-any-from-requires c κs = search needs
-
-returns-4 : tie.Need-returns-4
-returns-4 c = simp (toZ-ofZ (c .before .before .before .before .before .before .fits .default)) at (c .any-from .ensures)
+returns-2 c = simp (toZ-ofZ (c .before .before .before .before .fits .default)) at (c .field-from .ensures)
 
 pub number-from-spec : {M : Type 1} → statement M
 number-from-spec =
     tie.close
     (tie.spec
+    is-one-digit-requires
+    shared-slice-read-t6
+    sub-t7
+    cast-t8
+    add-t9
     returns
-    digits-from-requires
-    cast-value
-    returns-2
-    shared-slice-read-if4
-    add-t14
-    returns-3
-    any-from-requires
-    returns-4)
+    field-from-requires
+    returns-2)

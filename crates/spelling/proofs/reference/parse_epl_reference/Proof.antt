@@ -1,21 +1,25 @@
 -- `spelling::reference::parse_epl_reference` meets its contract: the first comma decides.
 -- Assumes nothing.
-use mathlib.Core.Path.{sym, _∙_}
-use lib.Dec.{eqb}
+use mathlib.Core.Path.{_≡_, refl, sym, _∙_}
+use lib.IntN.{pos}
 use lib.ListN.{length}
 use borrow.Author.Tests.{eq-eqb, ne-eqb}
-use Rattle.text.specs.Fields.{indexOf}
+use Rattle.text.specs.Fields.{indexOf, before}
+use Rattle.text.specs.Number.{fieldOr}
 use Rattle.text.proofs.IntLaws.{back32}
+use Rattle.parameters.specs.Params.{numberAt}
+use Rattle.parameters.proofs.PlaceLaws.{number-value}
 use Rattle.spelling.specs.Reference.{referenceOf}
 use borrow.Author.Needs.{needs}
 use Rattle.spelling.proofs.reference.parse_epl_reference.Statement.{statement}
 use Rattle.spelling.proofs.reference.parse_epl_reference.Tie as tie
 
-first-field-requires : tie.Need-first-field-requires
-first-field-requires c κs = search needs
+x-is : (d : tie.After-field-from) → d .field-from .result .value ≡ fieldOr (pos 0) (before 44 (d .before .before .args .params .now))
+unfolding numberAt
+x-is d = number-value (pos 0) (d .before .before .args .params .now) 0 refl (d .field-from .ensures)
 
-number-or-requires : tie.Need-number-or-requires
-number-or-requires c κs = search needs
+field-from-requires : tie.Need-field-from-requires
+field-from-requires c κs = search needs
 
 find-requires : tie.Need-find-requires
 find-requires c κs = search needs
@@ -24,35 +28,34 @@ returns : tie.Need-returns
 unfolding referenceOf
 returns c =
     let f = c .before .before in
-    let s = f .before .before .before .before in
-    let x = f .before .number-or in
-    rw (back32 (x .result) (x .ok), back32 (s .args .reference .y) (c .struct-told .given .1 .0 .1))
-    (simp (x .ensures, f .before .before .first-field .ensures, eq-eqb (indexOf 44 (s .args .params .now)) (length (s .args .params .now)) (sym (f .find .ensures .is) ∙ c .before .if1 .taken)))
+    let d = f .before .before in
+    let a = d .before .before .args in
+    rw (back32 (d .field-from .result .value) (f .before .struct-told .given .0 .1), back32 (a .reference .y) (c .struct-told2 .given .1 .0 .1))
+    (simp (x-is d, eq-eqb (indexOf 44 (a .params .now)) (length (a .params .now)) (sym (f .find .ensures .is) ∙ c .before .if1 .taken)))
 
 after-field-requires : tie.Need-after-field-requires
 after-field-requires c κs = search needs
 
-number-or-requires-2 : tie.Need-number-or-requires-2
-number-or-requires-2 c κs = search needs
+number-or-requires : tie.Need-number-or-requires
+number-or-requires c κs = search needs
 
 returns-2 : tie.Need-returns-2
 unfolding referenceOf
 returns-2 c =
     let f = c .before .before .before in
-    let s = f .before .before .before .before in
-    let x = f .before .number-or in
-    let y = c .number-or2 in
-    rw (back32 (x .result) (x .ok), back32 (y .result) (y .ok))
-    (simp (x .ensures, y .ensures, f .before .before .first-field .ensures, c .before .after-field .ensures, ne-eqb (indexOf 44 (s .args .params .now)) (length (s .args .params .now)) (λ h. c .before .before .if1 .left (f .find .ensures .is ∙ h))))
+    let d = f .before .before in
+    let a = d .before .before .args in
+    let y = c .number-or in
+    rw (back32 (d .field-from .result .value) (f .before .struct-told .given .0 .1), back32 (y .result) (y .ok))
+    (simp (x-is d, y .ensures, c .before .after-field .ensures, ne-eqb (indexOf 44 (a .params .now)) (length (a .params .now)) (λ h. c .before .before .if1 .left (f .find .ensures .is ∙ h))))
 
 pub parse-epl-reference-spec : {M : Type 1} → statement M
 parse-epl-reference-spec =
     tie.close
     (tie.spec
-    first-field-requires
-    number-or-requires
+    field-from-requires
     find-requires
     returns
     after-field-requires
-    number-or-requires-2
+    number-or-requires
     returns-2)

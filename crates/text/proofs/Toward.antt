@@ -1,13 +1,13 @@
 -- A buffer on its way: with the rest stored from where it stands, it is what it shall be.
 use mathlib.Core.Path.{_≡_, refl, sym, ap, _∙_}
-use mathlib.Core.List.{List, [], _∷_, _++_}
+use mathlib.Core.List.{List, [], _++_}
 use Prim.Native.Nat.{ℕ, _+_, _≤_}
 use native.Mathlib.Omega.{arith}
 use native.Mathlib.Nat.{add-zero}
 use lib.ListN.{length, length-append}
 use lib.Seq.{sets}
+use Rattle.text.specs.Wrote.{Put}
 use Rattle.text.proofs.WroteLaws.{sets-append, wrote}
-use Rattle.element_frames.specs.Put.{Put}
 
 pub record Toward (out : List ℕ) (at : ℕ) (rest out₀ : List ℕ) (at₀ : ℕ) (all : List ℕ) : Type 0 where
   pub is : sets out at rest ≡ sets out₀ at₀ all

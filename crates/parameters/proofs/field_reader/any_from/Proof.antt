@@ -1,4 +1,4 @@
--- `parameters::params::any_from` meets its contract: `find` gives the field's end, and `number_or` its number.
+-- `parameters::field_reader::any_from` meets its contract: `find` gives the field's end, and `number_or` its number.
 -- Assumes nothing.
 use mathlib.Core.Path.{_≡_, ap, _∙_}
 use Prim.Native.Nat.{_+_, _-_}
@@ -10,8 +10,8 @@ use Rattle.text.proofs.DropSteps.{rest}
 use Rattle.text.proofs.IntLaws.{back32}
 use Rattle.parameters.proofs.PlaceLaws.{any-comma, any-end}
 use borrow.Author.Needs.{needs}
-use Rattle.parameters.proofs.params.any_from.Statement.{statement}
-use Rattle.parameters.proofs.params.any_from.Tie as tie
+use Rattle.parameters.proofs.field_reader.any_from.Statement.{statement}
+use Rattle.parameters.proofs.field_reader.any_from.Tie as tie
 
 abbrev found : tie.After-number-or → tie.After-find
 found d = d .before .before

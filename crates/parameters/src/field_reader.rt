@@ -1,0 +1,115 @@
+// A reader of a parameter part's fields: the part, and the place of the next field.
+// The borrow checker covers no function over a struct that holds a reference. So the work stands in functions of a plain slice and a
+// place, and those of the reader only make it or take it apart. Commands are read through `params`, whose functions have plain parameters.
+ghost use mathlib.Core.Path.{_≡_};
+ghost use Prim.Native.Nat.{_≤_};
+ghost use lib.ListN.{length, drop};
+ghost use Rattle.parameters.specs.Params.{Ran, numberFrom};
+use text::class::is_digit;
+use text::number::number_or;
+use text::scan::find;
+
+// A number field's value, and the place of what follows its comma.
+pub struct Numbered {
+    pub value: i32,
+    pub next: usize,
+}
+
+// The value of digits, and where they end.
+struct Digits {
+    value: u32,
+    end: usize,
+}
+
+// The digits from at on, as far as nine are enough to say their value.
+fn digits_from(s: &[u8], at: usize) -> Digits
+    requires { ⌜ at ≤ length (now s) ⌝ }
+    ensures { λ r. ⌜ Ran (now (s .entry)) at r ⌝ }
+{
+    let mut value: u32 = 0;
+    let mut end = at;
+    while end < s.len() && value < 100000000 && is_digit(s[end]) {
+        value = value * 10 + ((s[end] - 48) as u32);
+        end += 1;
+    }
+    Digits { value, end }
+}
+
+// The slow way, for any field: blanks, a sign, many digits, or no number.
+fn any_from(s: &[u8], at: usize, default: i32) -> Numbered
+    requires { ⌜ at ≤ length (now s) ⌝ }
+    ensures { λ r. ⌜ r ≡ numberFrom default (now (s .entry)) at ⌝ }
+{
+    let end = at + find(&s[at..], b',');
+    let value = number_or(&s[at..end], default);
+    if end < s.len() {
+        return Numbered {
+            value,
+            next: end + 1,
+        };
+    }
+    Numbered { value, next: end }
+}
+
+// The number in the field at a place, or the default. A few digits, which most fields are, say their value as they stand.
+fn number_at_place(s: &[u8], at: usize, default: i32) -> Numbered
+    ensures { λ r. ⌜ r ≡ numberFrom default (now (s .entry)) at ⌝ }
+{
+    if s.len() < at {
+        return Numbered {
+            value: default,
+            next: s.len(),
+        };
+    }
+    let d = digits_from(s, at);
+    let end = d.end;
+    let value = d.value as i32;
+    if at < end {
+        if end == s.len() {
+            return Numbered { value, next: end };
+        }
+        if s[end] == b',' {
+            return Numbered {
+                value,
+                next: end + 1,
+            };
+        }
+    }
+    any_from(s, at, default)
+}
+
+// What stands from a place on: nothing past the end.
+fn rest_at_place(s: &[u8], at: usize) -> &[u8]
+    ensures { λ r. ⌜ now r ≡ drop at (now (s .entry)) ⌝ }
+{
+    if s.len() < at {
+        return &s[..0];
+    }
+    &s[at..]
+}
+
+// The parameter part of a command, and the place of the next field.
+pub struct FieldReader<'a> {
+    pub src: &'a [u8],
+    pub at: usize,
+}
+
+pub fn new<'a>(src: &'a [u8], at: usize) -> FieldReader<'a>
+    ensures { λ r. ⌜ (r .src ≡ src .entry) × (r .at ≡ at) ⌝ }
+{
+    FieldReader { src, at }
+}
+
+// The number in the next field, or the default, and the place of what follows.
+pub fn next_number<'a>(r: FieldReader<'a>, default: i32) -> Numbered
+    ensures { λ n. ⌜ n ≡ numberFrom default (now (r .entry .src)) (r .entry .at) ⌝ }
+{
+    number_at_place(r.src, r.at, default)
+}
+
+// What stands from the next field on.
+pub fn rest<'a>(r: FieldReader<'a>) -> &'a [u8]
+    ensures { λ t. ⌜ now t ≡ drop (r .entry .at) (now (r .entry .src)) ⌝ }
+{
+    rest_at_place(r.src, r.at)
+}
