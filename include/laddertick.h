@@ -1,9 +1,9 @@
 /*
  * Laddertick: reads and normalises EPL label files.
  *
- * Link libladdertick_c.a (`rt staticlib laddertick_c` writes target/staticlib/libladdertick_c.a). It needs no other library, keeps no state, takes no
- * heap and calls nothing: every function may be called from any thread at any time, also on the same input at once. A call needs less than 64 KiB of
- * stack (docs/PERFORMANCE.md has the measured figure).
+ * Link libladdertick_c.a (`rt staticlib laddertick_c` writes target/staticlib/libladdertick_c.a), for x86-64. It needs no other library, keeps no state,
+ * takes no heap and calls nothing: every function may be called from any thread at any time, also on the same input at once. A call needs less than 64 KiB
+ * of stack (docs/PERFORMANCE.md has the measured figure).
  *
  * What you lend stays yours. A function reads `input` and writes `out` only between their ends and only until it returns; it keeps no pointer. `input` and
  * `out` must not overlap, and no pointer may be NULL; where the length is 0 any other pointer will do. Nobody may write the input while a walk over it lasts.
@@ -31,9 +31,9 @@ extern "C" {
  * The author of the label; the place is the first byte of the refused line, its blanks included:
  */
 enum {
-    LADDERTICK_TEXT_FIELDS = 1,       /* A with fewer than 7 fields before its data */
-    LADDERTICK_BARCODE_FIELDS = 2,    /* B with fewer than 8 */
-    LADDERTICK_BARCODE_2D_FIELDS = 3, /* b with fewer than 3 */
+    LADDERTICK_TEXT_FIELDS = 1,       /* A with fewer than 7 fields before its data; empty fields right before the data are not counted */
+    LADDERTICK_BARCODE_FIELDS = 2,    /* B with fewer than 8, counted alike */
+    LADDERTICK_BARCODE_2D_FIELDS = 3, /* b with fewer than 3, counted alike */
     LADDERTICK_LINE_FIELDS = 4,       /* LO or LW with fewer than 4 fields */
     LADDERTICK_DIAGONAL_FIELDS = 5,   /* LS with fewer than 5 */
     LADDERTICK_BOX_FIELDS = 6,        /* X with fewer than 5 */
@@ -56,10 +56,10 @@ enum {
 
 /* Where a walk stands. Start with laddertick_start(), then hand on what each answer has as `next`. */
 typedef struct laddertick_walk {
-    size_t place;   /* the first byte that is not yet read */
-    int32_t x;      /* the reference point, as the last R or N set it */
+    int32_t x; /* the reference point, as the last R or N set it */
     int32_t y;
     size_t pending; /* elements since the last clear or print */
+    size_t place;   /* the first byte that is not yet read */
 } laddertick_walk;
 
 /* What an answer is. 1 to 16 are elements: of the label that is being drawn, in file order. */
@@ -90,10 +90,10 @@ enum {
 typedef struct laddertick_answer {
     uint8_t kind;
     uint8_t number;    /* refusal: its number */
-    uint8_t rotation;  /* text, 1D bar codes, PDF417: quarter turns, 0 to 3 */
+    uint8_t rotation;  /* text, 1D bar codes, PDF417: quarter turns as the file says them, 0 to 3 */
     uint8_t reverse;   /* text: 1 white on black */
     uint8_t colour;    /* box: 0 black, 1 white */
-    uint8_t direction; /* diagonal: 1 from top left to bottom right (or a point), 0 from bottom left to top right */
+    uint8_t direction; /* diagonal: 1 from top left to bottom right, or a point; 0 from bottom left to top right, or horizontal, or vertical */
     uint8_t line;      /* 1D bar codes: 1 with the line of text below */
     uint8_t check;     /* 2 of 5, Code 39: 1 with a check digit */
     uint8_t truncate;  /* PDF417: 1 truncated */
@@ -103,32 +103,34 @@ typedef struct laddertick_answer {
     int32_t width;         /* box, diagonal: width; 1D bar codes: of the narrow bar; PDF417: of a module */
     int32_t height;        /* box, diagonal, 1D bar codes: height; PDF417: of a row; Data Matrix: of a module */
     int32_t thickness;     /* box, diagonal */
-    int32_t row_bytes;     /* graphic: bytes a row; the rows are data_len / row_bytes */
-    int32_t security;      /* PDF417: its level, -1 where the encoder chooses */
-    int32_t columns;       /* PDF417, Data Matrix; 0 where the encoder chooses */
-    int32_t rows;          /* PDF417, Data Matrix; 0 where the encoder chooses */
-    int32_t magnification; /* Aztec, QR */
-    int32_t size;          /* Aztec; 0 where the encoder chooses */
-    int32_t mode;          /* Code 128: 1 UCC, 2 automatic, 3 EAN; MaxiCode: its mode */
+    int32_t row_bytes;     /* graphic: bytes a row. It may be 0, and data_len then is 0: test it before you divide by it for the rows */
+    int32_t security;      /* PDF417: its level, 1 to 8, or -1 where the encoder chooses */
+    int32_t columns;       /* PDF417, Data Matrix: as the file says, any number; 0 where the encoder chooses */
+    int32_t rows;          /* PDF417, Data Matrix: the same */
+    int32_t magnification; /* Aztec 1 to 55, QR 1 to 100 */
+    int32_t size;          /* Aztec: the file's number, which says error correction or layers; 0 where the encoder chooses */
+    int32_t mode;          /* Code 128: 1 UCC, 2 automatic, 3 EAN; MaxiCode: 2, 3, 4 or 6 */
     double text_height;    /* text: the cell's height and width */
     double text_width;
     double ratio;      /* 2 of 5, Code 39: wide bar to narrow bar, at least 2 */
     size_t place;      /* refusal: its place */
     size_t count;      /* print: how many elements */
-    size_t data_start; /* text, graphic, bar codes: where the data stands in the input, and its bytes there. A graphic's are its dots, row by row, */
-    size_t data_len;   /* a 0 bit black; all others are text that laddertick_data decodes */
+    size_t data_start; /* text, graphic, bar codes: where the data stands in the input, and its bytes there. A graphic's are its dots, row by row, as the */
+    size_t data_len;   /* file has them (the Rust that this is a port of draws a 1 bit black); all others are text that laddertick_data decodes */
     laddertick_walk next; /* for the next step */
 } laddertick_answer;
 
 /* The walk before the first byte: place 0, reference 0,0, nothing pending. */
 laddertick_walk laddertick_start(void);
 
-/* The next element, clear, print, end or refusal. Lines that say none of these are passed. At the end a pending label is printed, then the end is answered. */
+/* The next element, clear, print, end or refusal. Lines that say none of these are passed. At the end a pending label is printed, then the end is answered.
+   Refusals: all but 15. A loop stops at LADDERTICK_END and at LADDERTICK_REFUSED: the next step from there answers the same again. */
 laddertick_answer laddertick_step(const uint8_t *input, size_t input_len, laddertick_walk walk);
 
 /* ---- functions that write ---- */
 
-/* number 0: `place` bytes are written, from the start of out; bytes past them keep their values. Else a refusal, and out is as it came. */
+/* number 0: `place` bytes are written, from the start of out; bytes past them keep their values. Else a refusal, and out is as it came. To learn the length
+   that is needed lend 0 bytes: 15 gives it (or 0 bytes are written, where none are needed). */
 typedef struct laddertick_written {
     uint32_t number;
     size_t place;
@@ -138,7 +140,8 @@ typedef struct laddertick_written {
    Refusals: 14, 15. */
 laddertick_written laddertick_data(const uint8_t *input, size_t input_len, size_t start, size_t len, uint8_t *out, size_t out_len);
 
-/* The labels of a file as frames, one a line in hexadecimal. The whole file is read before anything is written. Refusals: all but 16. */
+/* The labels of a file as frames, one a line in hexadecimal (docs/FRAMES.md). The whole file is read before anything is written. 16 * n bytes are always
+   enough for n. Refusals: all but 16. */
 laddertick_written laddertick_list(const uint8_t *input, size_t input_len, uint8_t *out, size_t out_len);
 
 /* The file with blanks and empty lines taken away and graphics copied whole. n + n / 6 + 1 bytes are always enough for n. Refusals: 14, 15. */

@@ -30,11 +30,12 @@ int main(int argc, char **argv)
     if (w.number != 0) {
         if (of == laddertick_list)
             printf("ff%02x%08zx\n", w.number, w.place);
-        fflush(stdout);
+        flush();
         refuse(argv[2], input, w.number, w.place);
     }
-    if (fwrite(out, 1, w.place, stdout) != w.place || fflush(stdout) != 0)
+    if (fwrite(out, 1, w.place, stdout) != w.place)
         give_up("standard output", strerror(errno));
+    flush();
     free(out);
     free(input.at);
     return 0;

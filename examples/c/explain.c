@@ -16,19 +16,6 @@ static const char *const KINDS[] = {
 
 static const char *const MODES[] = {"", "UCC", "automatic", "EAN"};
 
-/* The data of an element as text, decoded. */
-static void put_data(const char *name, bytes input, laddertick_answer a)
-{
-    uint8_t *text = room(name, 3 * a.data_len);
-    laddertick_written w = laddertick_data(input.at, input.len, a.data_start, a.data_len, text, 3 * a.data_len);
-    if (w.number != 0)
-        refuse(name, input, w.number, w.place);
-    fputs(": \"", stdout);
-    put_text(stdout, text, w.place, SIZE_MAX);
-    fputc('"', stdout);
-    free(text);
-}
-
 /* The bars of a 1D bar code. */
 static void put_bars(laddertick_answer a)
 {
@@ -36,7 +23,7 @@ static void put_bars(laddertick_answer a)
     if (a.kind == LADDERTICK_CODE_128)
         printf(", mode %s", MODES[a.mode]);
     if (a.kind == LADDERTICK_2_OF_5 || a.kind == LADDERTICK_CODE_39)
-        printf(", ratio %g%s", a.ratio, a.check ? ", check digit" : "");
+        printf(", ratio %.17g%s", a.ratio, a.check ? ", check digit" : "");
     if (a.line)
         fputs(", with text below", stdout);
 }
@@ -49,13 +36,14 @@ static void explain(const char *name, bytes input, laddertick_answer a, size_t n
         printf(", turned %d", 90 * a.rotation);
     switch (a.kind) {
     case LADDERTICK_TEXT:
-        printf(", height %g, width %g%s", a.text_height, a.text_width, a.reverse ? ", white on black" : "");
+        printf(", height %.17g, width %.17g%s", a.text_height, a.text_width, a.reverse ? ", white on black" : "");
         break;
     case LADDERTICK_BOX:
         printf(", %" PRId32 " by %" PRId32 ", thickness %" PRId32 "%s", a.width, a.height, a.thickness, a.colour ? ", white" : "");
         break;
     case LADDERTICK_DIAGONAL:
-        printf(", %" PRId32 " by %" PRId32 ", thickness %" PRId32 ", %s", a.width, a.height, a.thickness, a.direction ? "falling" : "rising");
+        printf(", %" PRId32 " by %" PRId32 ", thickness %" PRId32 "%s", a.width, a.height, a.thickness,
+               a.width == 0 || a.height == 0 ? "" : a.direction ? ", falling" : ", rising");
         break;
     case LADDERTICK_GRAPHIC:
         printf(", %" PRId32 " bytes a row, %zu bytes\n", a.row_bytes, a.data_len);
@@ -79,8 +67,10 @@ static void explain(const char *name, bytes input, laddertick_answer a, size_t n
     default:
         put_bars(a);
     }
-    if (a.data_len != 0)
-        put_data(name, input, a);
+    if (a.data_len != 0) {
+        fputs(": ", stdout);
+        put_decoded(stdout, name, input, a.data_start, a.data_len, SIZE_MAX);
+    }
     fputc('\n', stdout);
 }
 
@@ -132,6 +122,7 @@ int main(int argc, char **argv)
         puts("no labels");
     else
         walk_file(argv[1], input, 1);
+    flush();
     free(input.at);
     return 0;
 }

@@ -63,7 +63,7 @@ fn bar_codes(size: usize) -> Vec<u8> {
 fn graphics(size: usize) -> Vec<u8> {
     filled(size, |i| {
         let mut label = b"N\nR8,8\nGW10,20,60,400,".to_vec();
-        label.extend((0..24_000).map(|k| if k % 60 == (k / 60 * 7 + i) % 60 { 0xc3 } else { 0xff }));
+        label.extend((0..24_000).map(|k| if k % 60 == (k / 60 * 7 + i) % 60 { 0x3c } else { 0 }));
         label.extend(format!("\nA0,130,0,2,1,1,N,\"profile {i}\"\nP1\n").bytes());
         label
     })

@@ -3,10 +3,10 @@
 #[repr(C)]
 #[derive(Clone, Copy)]
 struct Walk {
-    place: usize,
     x: i32,
     y: i32,
     pending: usize,
+    place: usize,
 }
 
 /// The flat answer: the kind, the fields that are not looked at here, and the walk's next state.
@@ -32,13 +32,15 @@ extern "C" {
     fn laddertick_normalise(input: *const u8, input_len: usize, out: *mut u8, out_len: usize) -> Written;
 }
 
-/// A whole walk. Gives a sum over the kinds, positions and lengths of data that were answered.
+/// A whole walk, to the end or to the refusal of the last line. Gives a sum over the kinds, positions and lengths of data that were answered.
 pub fn walk(input: &[u8]) -> usize {
     let (mut walk, mut sum) = (unsafe { laddertick_start() }, 0_usize);
     loop {
         let answer = unsafe { laddertick_step(input.as_ptr(), input.len(), walk) };
         sum = sum.wrapping_add(answer.kind as usize).wrapping_add(answer.numbers[0] as usize).wrapping_add(answer.places[3]);
         if answer.kind == 18 || answer.kind == 255 {
+            // A walk that is refused early would look fast.
+            assert!(answer.kind == 18 || answer.places[0] + 8 > input.len());
             return sum;
         }
         walk = answer.next;

@@ -25,14 +25,34 @@ enum { PAGE = 4096, STACK = 65536 };
 static const char *doing = "";
 static size_t now_case, now_round;
 
-/* A report that is safe inside a signal handler. */
+/* The report of a fault, by functions that a signal handler may call. */
+static void put_number(size_t n)
+{
+    char digits[20];
+    size_t i = sizeof digits;
+    do
+        digits[--i] = (char)('0' + n % 10);
+    while ((n /= 10) != 0);
+    if (write(2, digits + i, sizeof digits - i) < 0)
+        _exit(3);
+}
+
+static void put_words(const char *words)
+{
+    if (write(2, words, strlen(words)) < 0)
+        _exit(3);
+}
+
 static void fault(int number)
 {
-    static const char text[] = ": memory outside what was lent was touched by ";
-    char where[96];
-    int n = snprintf(where, sizeof where, "guard: case %zu, round %zu (signal %d)", now_case, now_round, number);
-    if (write(2, where, (size_t)n) < 0 || write(2, text, sizeof text - 1) < 0 || write(2, doing, strlen(doing)) < 0 || write(2, "\n", 1) < 0)
-        _exit(3);
+    (void)number;
+    put_words("guard: case ");
+    put_number(now_case);
+    put_words(", round ");
+    put_number(now_round);
+    put_words(": memory outside what was lent was touched by ");
+    put_words(doing);
+    put_words("\n");
     _exit(1);
 }
 
@@ -242,7 +262,7 @@ static void hold(const uint8_t *bytes, size_t n)
     states();
 }
 
-/* A copy with a few bytes changed, lost or doubled. */
+/* A copy with a few bytes changed or lost, or cut short. */
 static size_t damaged(uint8_t *to, const uint8_t *from, size_t n)
 {
     static const uint8_t LIKELY[] = "\n\r ,\"GWNRABbLOSXP019-+\t\x0b\x80\xc2\xa0\xe2\xff";

@@ -2,12 +2,14 @@ use crate::raw::{self, Answer};
 
 /// What a command draws.
 #[derive(Clone, Debug, PartialEq)]
+#[non_exhaustive]
 pub struct Element<'a> {
     /// The position in dots, the reference point added.
     pub x: i32,
     pub y: i32,
     pub kind: Kind,
-    /// The bytes of its data as they stand in the file: a graphic's dots, a 0 bit black; all other data is text. Empty where a kind has none.
+    /// The bytes of its data as they stand in the file: a graphic's dots, row by row (the Rust that this is a port of draws a 1 bit black); all other
+    /// data is text. Empty where a kind has none.
     pub data: &'a [u8],
 }
 
@@ -28,8 +30,9 @@ pub enum Kind {
     Text { rotation: u8, reverse: bool, height: f64, width: f64 },
     /// A box, or a line that is one.
     Box { width: i32, height: i32, thickness: i32, white: bool },
-    /// It falls from top left to bottom right, or rises from bottom left to top right.
+    /// It falls from top left to bottom right (a point does too), or rises from bottom left to top right, or is horizontal or vertical.
     Diagonal { width: i32, height: i32, thickness: i32, falls: bool },
+    /// 0 bytes a row where there is no data.
     Graphic { row_bytes: i32 },
     Code128 { bars: Bars, mode: BarMode },
     Ean13(Bars),

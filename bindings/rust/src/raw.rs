@@ -6,10 +6,10 @@ use crate::Refused;
 #[repr(C)]
 #[derive(Clone, Copy, Debug, PartialEq, Eq)]
 pub struct Walk {
-    pub place: usize,
     pub x: i32,
     pub y: i32,
     pub pending: usize,
+    pub place: usize,
 }
 
 /// What a step answers; a field that its kind does not name is 0.

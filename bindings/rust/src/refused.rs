@@ -1,6 +1,6 @@
 use std::{error, fmt};
 
-/// A refusal: 01's number and its place.
+/// A refusal: its number and its place.
 #[derive(Clone, Copy, Debug, PartialEq, Eq)]
 pub struct Refused {
     /// 1 to 9 and 13: the author of the label; 10 to 12: the sender of a graphic; 14 to 16: the caller.
@@ -15,9 +15,9 @@ impl Refused {
     /// What the number means.
     pub fn meaning(&self) -> &'static str {
         match self.number {
-            1 => "a text (A) has fewer than 7 fields before its data",
-            2 => "a bar code (B) has fewer than 8 fields before its data",
-            3 => "a 2D bar code (b) has fewer than 3 fields before its data",
+            1 => "a text (A) has fewer than 7 fields before its data (the last not empty)",
+            2 => "a bar code (B) has fewer than 8 fields before its data (the last not empty)",
+            3 => "a 2D bar code (b) has fewer than 3 fields before its data (the last not empty)",
             4 => "a line (LO, LW) has fewer than 4 fields",
             5 => "a diagonal (LS) has fewer than 5 fields",
             6 => "a box (X) has fewer than 5 fields",
@@ -30,7 +30,7 @@ impl Refused {
             13 => "a position or size is outside 32 bits",
             14 => "the file has more than 16,777,216 bytes",
             15 => "the buffer is too short",
-            16 => "no walk reaches this state",
+            16 => "the place of the walk is past the end, or its pending count above its place",
             _ => "unknown",
         }
     }

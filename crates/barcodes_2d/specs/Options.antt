@@ -82,7 +82,7 @@ abbrev pub lastOf : Wanted → ℕ → List ℕ → List Setting → List ℕ
 lastOf w p v [] = v
 lastOf w p v (o ∷ os) = lastOf w p (cond (eqb (o .letter) p && accepted w (o .value)) (o .value) v) os
 
--- "last one wins": its number, 0 where it is none
+-- the last one wins: its number, 0 where it is none
 unfoldable pub lastCount : ℕ → List Setting → ℤ
 lastCount p os = numberOr (pos 0) (numberOf (lastOf wanted.Any p [] os))
 

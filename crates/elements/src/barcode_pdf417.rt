@@ -26,13 +26,12 @@ impl BarcodePdf417 {
     pub const MODULE_WIDTH_MIN: i32 = 2;
 
     pub const MODULE_WIDTH_MAX: i32 = 9;
-    // Not given: ROW_HEIGHT_MODULES times the module width.
-    pub const ROW_HEIGHT: i32 = 0;
 
     pub const ROW_HEIGHT_MIN: i32 = 4;
 
     pub const ROW_HEIGHT_MAX: i32 = 99;
 
+    // Where the file gives no row height: so many times the module width.
     pub const ROW_HEIGHT_MODULES: i32 = 4;
 
     pub const ROTATION: i32 = 0;

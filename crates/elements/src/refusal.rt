@@ -23,7 +23,7 @@ pub enum Refusal {
     GraphicTruncated,
     // The author of the label: a position or size outside 32 bits.
     OutOfRange,
-    // The host: input too long, buffer too short, a walk state that no walk reaches.
+    // The host: input too long, buffer too short, a walk state with its place past the end, or its pending count above its place.
     InputTooLong,
     OutputTooShort,
     StateOutside,

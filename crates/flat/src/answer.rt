@@ -7,13 +7,14 @@ use elements::data_span::DataSpan;
 use elements::field_orientation::FieldOrientation;
 use elements::label_position::LabelPosition;
 
-// The state of a walk: where the next unit stands, the reference point, and how many elements are pending.
+// The state of a walk: the reference point, how many elements are pending, and where the next unit stands. The place is last: compilers copy the first
+// sixteen bytes in one move, which waits for all that was just stored there, and the next step waits for the place alone.
 #[repr(C)]
 pub struct Walk {
-    pub place: usize,
     pub x: i32,
     pub y: i32,
     pub pending: usize,
+    pub place: usize,
 }
 
 // What a step answers. A field that is none of its kind's is 0.

@@ -47,8 +47,9 @@ pub record Normalising (s : List ℕ) (ls : List FramedLabel) : Type 0 where
       → (xs : List (Answer LabelPosition LabelElement Unit)) × Reach epl (normalised s) (stateOf fresh) xs accepted × (answered epl (List ℕ) frameOf (normalised s) [] xs ≡ ls)
   -- "normalising it again changes nothing"
   pub again : normalised (normalised s) ≡ normalised s
-  -- "its graphic blocks are the string's, byte for byte, in order and no others"
+  -- "accepted with the same labels", by its division
   pub divides : Divides (normalised s) ls
+  -- "its graphic blocks are the string's, byte for byte, in order and no others"
   pub same-blocks : (us vs : List EplUnit) → Division epl s us → Division epl (normalised s) vs → each blocks vs ≡ each blocks us
 
 -- the whole walk of s from the fresh state, each step given the state that the last one returned; `step` of the crate `walk` is proved equal to `step epl`

@@ -46,10 +46,6 @@ placeOf s t = length s - length t
 unfoldable pub numberFrom : ℤ → List ℕ → ℕ → Numbered
 numberFrom d s at = record { value = numberAt d (drop at s); next = placeOf s (after 44 (drop at s)) }
 
--- a field of one digit, closed by a comma
-abbrev pub oneDigit : List ℕ → ℕ → Bool
-oneDigit s at = isDigit (getD s at 0) && eqb (getD s (at + 1) 0) 44
-
 -- the same where the least value is 1
 unfoldable pub sizeFrom : ℤ → List ℕ → ℕ → Numbered
 sizeFrom d s at = record { value = sizeAt d (drop at s); next = placeOf s (after 44 (drop at s)) }
@@ -58,7 +54,12 @@ sizeFrom d s at = record { value = sizeAt d (drop at s); next = placeOf s (after
 unfoldable pub pointFrom : List ℕ → ℕ → Pointed
 pointFrom s at = record { point = pointAt (drop at s); next = placeOf s (after 44 (after 44 (drop at s))) }
 
--- what `digits_from` answers: nothing but digits stands from at up to r's end, and the field goes on there with their value
+-- ---- the parts
+-- a field of one digit, closed by a comma
+abbrev pub oneDigit : List ℕ → ℕ → Bool
+oneDigit s at = isDigit (getD s at 0) && eqb (getD s (at + 1) 0) 44
+
+-- what `digits_from` answers: read on from r's end with r's value, the field at `at` has the same value and the same comma
 pub record Ran (s : List ℕ) (at : ℕ) (r : Digits) : Type 0 where
   pub low : at ≤ r .end
   pub high : r .end ≤ length s

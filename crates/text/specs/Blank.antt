@@ -83,13 +83,14 @@ back p w = p (reverse w)
 abbrev pub stripEnd : (List ℕ → Bool) → List ℕ → List ℕ
 stripEnd p s = reverse (strip (back p) (reverse s))
 
--- without the Unicode blanks at both ends
+-- without the Unicode blanks at one end
 abbrev pub trimStart : List ℕ → List ℕ
 trimStart s = strip isBlank s
 
 abbrev pub trimEnd : List ℕ → List ℕ
 trimEnd s = stripEnd isBlank s
 
+-- "After its Unicode blanks .. are taken off both ends"
 abbrev pub trim : List ℕ → List ℕ
 trim s = trimEnd (trimStart s)
 

@@ -12,7 +12,6 @@ use elements::text_field::TextField;
 use parameters::params::has_fields;
 use parameters::params::is_exactly;
 use parameters::params::number_from;
-use parameters::params::point_from;
 use parameters::params::rest_from;
 use parameters::params::size_from;
 use parameters::position::Placed;
@@ -49,9 +48,13 @@ fn scale_from(s: &[u8], at: usize) -> Scale
 pub fn text_fields(s: &[u8]) -> TextFields
     ensures { λ r. ⌜ r ≡ textFields (now (s .entry)) ⌝ }
 {
-    let p = point_from(s, 0);
-    let at = p.point;
-    let rotation = number_from(s, p.next, 0);
+    let x = number_from(s, 0, 0);
+    let y = number_from(s, x.next, 0);
+    let at = LabelPosition {
+        x: x.value,
+        y: y.value,
+    };
+    let rotation = number_from(s, y.next, 0);
     let font = number_from(s, rotation.next, 1);
     let scale = scale_from(s, font.next);
     TextFields {
