@@ -1,9 +1,9 @@
 // `B`: bar codes. Fields: x, y, rotation, type, narrow bar, wide bar, bar height, line.
 ghost use mathlib.Core.Path.{_≡_};
 ghost use Prim.Native.Nat.{_≤_};
-ghost use lib.ListN.{length, take, drop};
+ghost use lib.ListN.{length, take};
 ghost use Rattle.text.specs.Blank.{trim};
-ghost use Rattle.barcodes.specs.Barcode.{oneLetter, code128Letter, twoLetters, threeLetters, symbologyOf, isListed, barsAt, barcodeFields, code128, interleaved, code39, ean13, ean8, upcA, upcE, barcodeElement, barcodeAt, barcodeReading};
+ghost use Rattle.barcodes.specs.Barcode.{oneLetter, code128Letter, twoLetters, threeLetters, symbologyOf, isListed, code128, interleaved, code39, ean13, ean8, upcA, upcE, barcodeElement, barcodeAt, barcodeReading};
 use crate::ratio::bar_ratio;
 use elements::barcode_2of5::Barcode2of5;
 use elements::barcode_2of5::Barcode2of5WithData;
@@ -25,10 +25,9 @@ use elements::field_orientation::FieldOrientation;
 use elements::label_element::LabelElement;
 use elements::label_position::LabelPosition;
 use elements::refusal::Refusal;
-use parameters::params::has_fields;
 use parameters::params::is_exactly;
 use parameters::params::number_from;
-use parameters::params::point_from;
+use parameters::params::reaches;
 use parameters::params::rest_from;
 use parameters::params::size_from;
 use parameters::position::Placed;
@@ -152,45 +151,11 @@ pub struct Bars {
     pub line: bool,
 }
 
-// The fifth field on, from its place: bars and line.
-fn bars_from(s: &[u8], at: usize) -> Bars
-    ensures { λ r. ⌜ r ≡ barsAt (drop at (now (s .entry))) ⌝ }
-{
-    let narrow = size_from(s, at, 1);
-    let wide = number_from(s, narrow.next, 2);
-    let height = size_from(s, wide.next, 10);
-    let line = is_exactly(rest_from(s, height.next), b'B');
-    Bars {
-        narrow: narrow.value,
-        wide: wide.value,
-        height: height.value,
-        line,
-    }
-}
-
 pub struct BarcodeFields {
     pub at: LabelPosition,
     pub rotation: i32,
     pub symbology: Symbology,
     pub bars: Bars,
-}
-
-pub fn barcode_fields(s: &[u8]) -> BarcodeFields
-    ensures { λ r. ⌜ r ≡ barcodeFields (now (s .entry)) ⌝ }
-{
-    let p = point_from(s, 0);
-    let at = p.point;
-    let rotation = number_from(s, p.next, 0);
-    let t = rest_from(s, rotation.next);
-    let n = find(t, b',');
-    let symbology = symbology_upto(t, n);
-    let bars = bars_from(t, n + 1);
-    BarcodeFields {
-        at,
-        rotation: rotation.value,
-        symbology,
-        bars,
-    }
 }
 
 // What a bar code of any type has.
@@ -387,12 +352,38 @@ pub fn barcode_at(f: BarcodeFields, span: DataSpan, reference: LabelPosition) ->
     )
 }
 
-// A line's parameters and data, at a reference.
+// A line's parameters and data, at a reference. The fields are counted only where nothing stands behind the seventh.
 pub fn parse_epl_barcode(params: &[u8], span: DataSpan, reference: LabelPosition) -> Reading
     ensures { λ r. ⌜ r ≡ barcodeReading (now (params .entry)) span reference ⌝ }
 {
-    if !has_fields(params, 8) {
+    let x = number_from(params, 0, 0);
+    let y = number_from(params, x.next, 0);
+    let rotation = number_from(params, y.next, 0);
+    let t = rest_from(params, rotation.next);
+    let n = find(t, b',');
+    let narrow = size_from(t, n + 1, 1);
+    let wide = number_from(t, narrow.next, 2);
+    let height = size_from(t, wide.next, 10);
+    if !reaches(height.next < t.len(), params, 8) {
         return Reading::Refused(Refusal::BarcodeFields);
     }
-    barcode_at(barcode_fields(params), span, reference)
+    let symbology = symbology_upto(t, n);
+    let line = is_exactly(rest_from(t, height.next), b'B');
+    let at = LabelPosition {
+        x: x.value,
+        y: y.value,
+    };
+    let bars = Bars {
+        narrow: narrow.value,
+        wide: wide.value,
+        height: height.value,
+        line,
+    };
+    let fields = BarcodeFields {
+        at,
+        rotation: rotation.value,
+        symbology,
+        bars,
+    };
+    barcode_at(fields, span, reference)
 }

@@ -14,6 +14,7 @@ use Rattle.elements.specs.declared.line_color.LineColor.{LineColor}
 use Rattle.elements.specs.declared.line_color.LineColor.the-variants as colour
 use Rattle.elements.specs.declared.refusal.Refusal.the-variants as refusal
 use Rattle.draws.specs.declared.draw.Corners.{Corners}
+use Rattle.draws.specs.declared.draw.CornersRead.{CornersRead}
 use Rattle.draws.specs.declared.draw.Cornered.{Cornered}
 use Rattle.draws.specs.declared.draw.Cornered.the-variants as cornered
 use Rattle.draws.specs.declared.draw.Extent.{Extent}
@@ -49,6 +50,10 @@ cornersAt s =
       thickness = sizeAt (pos 1) (after 44 (after 44 s));
       second = pointAt (after 44 (after 44 (after 44 s)));
     }
+
+-- the corners, and whether anything stands behind the fourth comma
+unfoldable pub cornersRead : List ℕ → CornersRead
+cornersRead s = record { corners = cornersAt s; seen = ltb 0 (length (after 44 (after 44 (after 44 (after 44 s))))) }
 
 -- along one axis: "the position is the smaller of each pair, width and height are the absolute differences"; both must fit 32 bits
 unfoldable pub extentOf : ℤ → ℤ → Measured

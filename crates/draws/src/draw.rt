@@ -1,14 +1,14 @@
 // `LO` and `LW`: lines as boxes; `LS`: diagonals; `X`: boxes by two corners.
 ghost use mathlib.Core.Path.{_≡_};
-ghost use Rattle.draws.specs.Draw.{lineFields, lineElement, lineReading, cornersAt, extentOf, drawnAt, sameWay, diagonalOf, diagonalReading, boxOf, boxReading};
+ghost use Rattle.draws.specs.Draw.{lineElement, lineReading, cornersRead, extentOf, drawnAt, sameWay, diagonalOf, diagonalReading, boxOf, boxReading};
 use elements::graphic_box::GraphicBox;
 use elements::graphic_diagonal_line::GraphicDiagonalLine;
 use elements::label_element::LabelElement;
 use elements::label_position::LabelPosition;
 use elements::line_color::LineColor;
 use elements::refusal::Refusal;
-use parameters::params::has_fields;
-use parameters::params::point_from;
+use parameters::params::number_from;
+use parameters::params::reaches;
 use parameters::params::size_from;
 use parameters::position::Placed;
 use parameters::position::place;
@@ -22,21 +22,6 @@ pub struct LineFields {
     pub at: LabelPosition,
     pub width: i32,
     pub height: i32,
-}
-
-// x, y, width, height.
-pub fn line_fields(s: &[u8]) -> LineFields
-    ensures { λ r. ⌜ r ≡ lineFields (now (s .entry)) ⌝ }
-{
-    let p = point_from(s, 0);
-    let at = p.point;
-    let width = size_from(s, p.next, 1);
-    let height = size_from(s, width.next, 1);
-    LineFields {
-        at,
-        width: width.value,
-        height: height.value,
-    }
 }
 
 // A line at a reference, or 13.
@@ -60,10 +45,23 @@ pub fn line_element(f: LineFields, line_color: LineColor, reference: LabelPositi
 pub fn parse_epl_line(params: &[u8], line_color: LineColor, reference: LabelPosition) -> Reading
     ensures { λ r. ⌜ r ≡ lineReading (now (params .entry)) «line_color» reference ⌝ }
 {
-    if !has_fields(params, 4) {
+    let x = number_from(params, 0, 0);
+    let y = number_from(params, x.next, 0);
+    let width = size_from(params, y.next, 1);
+    if !reaches(width.next < params.len(), params, 4) {
         return Reading::Refused(Refusal::LineFields);
     }
-    line_element(line_fields(params), line_color, reference)
+    let height = size_from(params, width.next, 1);
+    let at = LabelPosition {
+        x: x.value,
+        y: y.value,
+    };
+    let fields = LineFields {
+        at,
+        width: width.value,
+        height: height.value,
+    };
+    line_element(fields, line_color, reference)
 }
 
 pub struct Corners {
@@ -72,19 +70,37 @@ pub struct Corners {
     pub second: LabelPosition,
 }
 
+// Corners as they are read, and whether anything stands behind the fourth comma.
+pub struct CornersRead {
+    pub corners: Corners,
+    pub seen: bool,
+}
+
 // x1, y1, thickness, x2, y2.
-pub fn corners_at(s: &[u8]) -> Corners
-    ensures { λ r. ⌜ r ≡ cornersAt (now (s .entry)) ⌝ }
+pub fn read_corners(s: &[u8]) -> CornersRead
+    ensures { λ r. ⌜ r ≡ cornersRead (now (s .entry)) ⌝ }
 {
-    let p = point_from(s, 0);
-    let thickness = size_from(s, p.next, 1);
-    let q = point_from(s, thickness.next);
-    let first = p.point;
-    let second = q.point;
-    Corners {
+    let x = number_from(s, 0, 0);
+    let y = number_from(s, x.next, 0);
+    let thickness = size_from(s, y.next, 1);
+    let x2 = number_from(s, thickness.next, 0);
+    let y2 = number_from(s, x2.next, 0);
+    let first = LabelPosition {
+        x: x.value,
+        y: y.value,
+    };
+    let second = LabelPosition {
+        x: x2.value,
+        y: y2.value,
+    };
+    let corners = Corners {
         first,
         thickness: thickness.value,
         second,
+    };
+    CornersRead {
+        corners,
+        seen: x2.next < s.len(),
     }
 }
 
@@ -165,10 +181,11 @@ pub fn same_way(ax: bool, bx: bool, ay: bool, by: bool) -> bool
 pub fn parse_epl_diagonal(params: &[u8], reference: LabelPosition) -> Reading
     ensures { λ r. ⌜ r ≡ diagonalReading (now (params .entry)) reference ⌝ }
 {
-    if !has_fields(params, 5) {
+    let read = read_corners(params);
+    if !reaches(read.seen, params, 5) {
         return Reading::Refused(Refusal::DiagonalFields);
     }
-    let c = corners_at(params);
+    let c = read.corners;
     diagonal(c.thickness, drawn_at(c, reference))
 }
 
@@ -192,10 +209,11 @@ fn diagonal(thickness: i32, d: Cornered) -> Reading
 pub fn parse_epl_box(params: &[u8], reference: LabelPosition) -> Reading
     ensures { λ r. ⌜ r ≡ boxReading (now (params .entry)) reference ⌝ }
 {
-    if !has_fields(params, 5) {
+    let read = read_corners(params);
+    if !reaches(read.seen, params, 5) {
         return Reading::Refused(Refusal::BoxFields);
     }
-    let c = corners_at(params);
+    let c = read.corners;
     boxed(c.thickness, drawn_at(c, reference))
 }
 

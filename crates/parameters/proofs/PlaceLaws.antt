@@ -18,7 +18,7 @@ use Rattle.text.proofs.BoolLaws.{test, and-both, within-high}
 use Rattle.text.proofs.FieldsLaws.{index-le}
 use Rattle.text.proofs.PlainLaws.{field-digits, index-digit, index-end, index-here, value-digit, value-end}
 use Rattle.parameters.specs.Params.{numberAt, sizeAt, pointAt, placeOf, oneDigit, numberFrom, sizeFrom, pointFrom, Ran}
-use Rattle.parameters.specs.declared.field_reader.Digits.{Digits}
+use Rattle.parameters.specs.declared.params.Digits.{Digits}
 use Rattle.parameters.specs.declared.field_reader.Numbered.{Numbered}
 use Rattle.parameters.specs.declared.params.Pointed.{Pointed}
 

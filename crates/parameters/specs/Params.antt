@@ -9,11 +9,12 @@ use lib.ListN.{length, getD, drop}
 use Rattle.text.specs.Blank.{trim}
 use Rattle.text.specs.Class.{isDigit}
 use Rattle.text.specs.Fields.{indexOf, before, after, same}
+use Rattle.text.specs.Utf8.{within}
 use Rattle.text.specs.Int.{maxZ}
 use Rattle.text.specs.Number.{valueFrom, fieldOr}
 use Rattle.elements.specs.declared.label_position.LabelPosition.{LabelPosition}
 use Rattle.parameters.specs.declared.field_reader.Numbered.{Numbered}
-use Rattle.parameters.specs.declared.field_reader.Digits.{Digits}
+use Rattle.parameters.specs.declared.params.Digits.{Digits}
 use Rattle.parameters.specs.declared.params.Pointed.{Pointed}
 
 -- the number in the first field, or its default
@@ -58,6 +59,10 @@ pointFrom s at = record { point = pointAt (drop at s); next = placeOf s (after 4
 -- a field of one digit, closed by a comma
 abbrev pub oneDigit : List ℕ → ℕ → Bool
 oneDigit s at = isDigit (getD s at 0) && eqb (getD s (at + 1) 0) 44
+
+-- the first field is one byte, neither a comma nor part of a blank
+abbrev pub alone : List ℕ → Bool
+alone s = within 0x2d 0x7f (getD s 0 0) && eqb (indexOf 44 s) 1
 
 -- what `digits_from` answers: read on from r's end with r's value, the field at `at` has the same value and the same comma
 pub record Ran (s : List ℕ) (at : ℕ) (r : Digits) : Type 0 where

@@ -4,8 +4,7 @@
 ghost use mathlib.Core.Path.{_≡_};
 ghost use Prim.Native.Nat.{_≤_};
 ghost use lib.ListN.{length, drop};
-ghost use Rattle.parameters.specs.Params.{Ran, numberFrom};
-use text::class::is_digit;
+ghost use Rattle.parameters.specs.Params.{numberFrom};
 use text::number::number_or;
 use text::scan::find;
 
@@ -15,27 +14,7 @@ pub struct Numbered {
     pub next: usize,
 }
 
-// The value of digits, and where they end.
-struct Digits {
-    value: u32,
-    end: usize,
-}
-
-// The digits from at on, as far as nine are enough to say their value.
-fn digits_from(s: &[u8], at: usize) -> Digits
-    requires { ⌜ at ≤ length (now s) ⌝ }
-    ensures { λ r. ⌜ Ran (now (s .entry)) at r ⌝ }
-{
-    let mut value: u32 = 0;
-    let mut end = at;
-    while end < s.len() && value < 100000000 && is_digit(s[end]) {
-        value = value * 10 + ((s[end] - 48) as u32);
-        end += 1;
-    }
-    Digits { value, end }
-}
-
-// The slow way, for any field: blanks, a sign, many digits, or no number.
+// The number in the field at a place within s: blanks, a sign, many digits, or no number.
 fn any_from(s: &[u8], at: usize, default: i32) -> Numbered
     requires { ⌜ at ≤ length (now s) ⌝ }
     ensures { λ r. ⌜ r ≡ numberFrom default (now (s .entry)) at ⌝ }
@@ -51,7 +30,7 @@ fn any_from(s: &[u8], at: usize, default: i32) -> Numbered
     Numbered { value, next: end }
 }
 
-// The number in the field at a place, or the default. A few digits, which most fields are, say their value as they stand.
+// The number in the field at a place, or the default.
 fn number_at_place(s: &[u8], at: usize, default: i32) -> Numbered
     ensures { λ r. ⌜ r ≡ numberFrom default (now (s .entry)) at ⌝ }
 {
@@ -60,20 +39,6 @@ fn number_at_place(s: &[u8], at: usize, default: i32) -> Numbered
             value: default,
             next: s.len(),
         };
-    }
-    let d = digits_from(s, at);
-    let end = d.end;
-    let value = d.value as i32;
-    if at < end {
-        if end == s.len() {
-            return Numbered { value, next: end };
-        }
-        if s[end] == b',' {
-            return Numbered {
-                value,
-                next: end + 1,
-            };
-        }
     }
     any_from(s, at, default)
 }

@@ -1,10 +1,13 @@
 // The parameter part of a command, field by field: a slice and the place of the next field, so that each byte is looked at once.
 // A field reader is made at the place and passed on: to whoever calls these functions, their parameters are plain.
 ghost use mathlib.Core.Path.{_≡_};
+ghost use mathlib.Core.Bool.{true, cond};
+ghost use Prim.Native.Nat.{_≤_};
 ghost use lib.Dec.{leb};
 ghost use lib.ListN.{length, drop};
 ghost use Rattle.text.specs.Fields.{fields};
-ghost use Rattle.parameters.specs.Params.{oneDigit, numberFrom, sizeFrom, pointFrom, typeAt, exactly};
+ghost use Rattle.text.specs.Utf8.{within};
+ghost use Rattle.parameters.specs.Params.{Ran, alone, oneDigit, numberFrom, sizeFrom, pointFrom, typeAt, exactly};
 use crate::field_reader::Numbered;
 use crate::field_reader::new;
 use crate::field_reader::next_number;
@@ -22,6 +25,53 @@ pub fn field_from(s: &[u8], at: usize, default: i32) -> Numbered
     next_number(new(s, at), default)
 }
 
+// The value of digits, and where they end.
+struct Digits {
+    value: u32,
+    end: usize,
+}
+
+// The digits from at on, as far as nine are enough to say their value.
+fn digits_from(s: &[u8], at: usize) -> Digits
+    requires { ⌜ at ≤ length (now s) ⌝ }
+    ensures { λ r. ⌜ Ran (now (s .entry)) at r ⌝ }
+{
+    let mut value: u32 = 0;
+    let mut end = at;
+    while end < s.len() && value < 100000000 && is_digit(s[end]) {
+        value = value * 10 + ((s[end] - 48) as u32);
+        end += 1;
+    }
+    Digits { value, end }
+}
+
+// The same as `field_from`; a few digits, which most fields are, say their value as they stand. Small, so that it is inlined; the other fields are a call.
+fn digits_or_field(s: &[u8], at: usize, default: i32) -> Numbered
+    ensures { λ r. ⌜ r ≡ numberFrom default (now (s .entry)) at ⌝ }
+{
+    if s.len() < at {
+        return Numbered {
+            value: default,
+            next: s.len(),
+        };
+    }
+    let d = digits_from(s, at);
+    let end = d.end;
+    let value = d.value as i32;
+    if at < end {
+        if end == s.len() {
+            return Numbered { value, next: end };
+        }
+        if s[end] == b',' {
+            return Numbered {
+                value,
+                next: end + 1,
+            };
+        }
+    }
+    field_from(s, at, default)
+}
+
 // One digit and a comma stand at a place.
 fn is_one_digit(s: &[u8], at: usize) -> bool
     ensures { λ r. ⌜ r ≡ oneDigit (now (s .entry)) at ⌝ }
@@ -35,7 +85,7 @@ fn is_one_digit(s: &[u8], at: usize) -> bool
     is_digit(s[at]) & (s[at + 1] == b',')
 }
 
-// The same as `field_from`; one digit, which many fields are, is told at once.
+// The same; one digit, which many fields are, is told at once.
 pub fn number_from(s: &[u8], at: usize, default: i32) -> Numbered
     ensures { λ r. ⌜ r ≡ numberFrom default (now (s .entry)) at ⌝ }
 {
@@ -45,7 +95,7 @@ pub fn number_from(s: &[u8], at: usize, default: i32) -> Numbered
             next: at + 2,
         };
     }
-    field_from(s, at, default)
+    digits_or_field(s, at, default)
 }
 
 // The same where the least value is 1.
@@ -93,10 +143,33 @@ fn type_at(s: &[u8]) -> &[u8]
     trim(first_field(s))
 }
 
+// A byte that is neither a comma nor part of a blank.
+fn is_mark(b: u8) -> bool
+    ensures { λ r. ⌜ r ≡ within 0x2d 0x7f b ⌝ }
+{
+    (0x2d <= b) & (b <= 0x7f)
+}
+
+// The first field is one such byte.
+fn is_alone(s: &[u8]) -> bool
+    ensures { λ r. ⌜ r ≡ alone (now (s .entry)) ⌝ }
+{
+    if s.len() == 0 {
+        return false;
+    }
+    if s.len() == 1 {
+        return is_mark(s[0]);
+    }
+    is_mark(s[0]) & (s[1] == b',')
+}
+
 // The first field, its blanks off, is exactly the byte b.
 pub fn is_exactly(s: &[u8], b: u8) -> bool
     ensures { λ r. ⌜ r ≡ exactly b (now (s .entry)) ⌝ }
 {
+    if is_alone(s) {
+        return s[0] == b;
+    }
     let t = type_at(s);
     if t.len() == 1 { t[0] == b } else { false }
 }
@@ -114,6 +187,16 @@ pub fn has_fields(s: &[u8], n: usize) -> bool
         i += 1;
     }
     wanted <= 1
+}
+
+// At least n fields. Where a reader of fields has seen that something stands behind n - 1 commas they are not counted.
+pub fn reaches(seen: bool, s: &[u8], n: usize) -> bool
+    ensures { λ r. ⌜ r ≡ cond seen true (leb n (length (fields (now (s .entry))))) ⌝ }
+{
+    if seen {
+        return true;
+    }
+    has_fields(s, n)
 }
 
 // s without its first byte, if it has one.

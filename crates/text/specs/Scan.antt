@@ -2,11 +2,17 @@
 use mathlib.Core.Path.{_≡_}
 use mathlib.Core.List.{List}
 use Prim.Native.Nat.{ℕ, _≤_, _<_}
-use lib.ListN.{getD}
+use lib.ListN.{length, getD}
 
 -- no b from lo up to, not including, hi
 pub record None (a : List ℕ) (b lo hi : ℕ) : Type 0 where
   pub none : (k : ℕ) → lo ≤ k → k < hi → getD a k 0 ≡ b → ⊥
+
+-- no b from lo up to r, a place within a
+pub record Passed (a : List ℕ) (b lo r : ℕ) : Type 0 where
+  pub low : lo ≤ r
+  pub high : r ≤ length a
+  pub before : None a b lo r
 
 -- r is the first b from lo up to hi, or hi
 pub record First (a : List ℕ) (b lo hi r : ℕ) : Type 0 where

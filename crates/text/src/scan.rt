@@ -2,7 +2,7 @@
 ghost use Prim.Native.Nat.{_+_, _≤_};
 ghost use lib.ListN.{length};
 ghost use Rattle.text.specs.Fields.{Found};
-ghost use Rattle.text.specs.Scan.{First};
+ghost use Rattle.text.specs.Scan.{Passed, First};
 
 // The first b among the sixty-four bytes from `from` on, counted from there, or 64: a minimum over all of them.
 fn window(a: &[u8], from: usize, b: u8) -> u8
@@ -17,6 +17,30 @@ fn window(a: &[u8], from: usize, b: u8) -> u8
         i += 1;
     }
     k
+}
+
+// Passes bytes four at a time: no b stands before where it stops.
+fn by_four(a: &[u8], from: usize, b: u8) -> usize
+    requires { ⌜ from ≤ length (now a) ⌝ }
+    ensures { λ r. ⌜ Passed (now (a .entry)) b from r ⌝ }
+{
+    let mut i = from;
+    while 4 <= a.len() - i {
+        if a[i] == b {
+            return i;
+        }
+        if a[i + 1] == b {
+            return i + 1;
+        }
+        if a[i + 2] == b {
+            return i + 2;
+        }
+        if a[i + 3] == b {
+            return i + 3;
+        }
+        i += 4;
+    }
+    i
 }
 
 fn by_one(a: &[u8], from: usize, b: u8) -> usize
@@ -45,7 +69,7 @@ fn scan(a: &[u8], b: u8) -> usize
         }
         i += 64;
     }
-    by_one(a, i, b)
+    by_one(a, by_four(a, i, b), b)
 }
 
 // The index of the first b, or the length where there is none.

@@ -1,7 +1,6 @@
 // `A`: text. Fields: x, y, rotation, font, horizontal multiplier, vertical multiplier, reverse.
 ghost use mathlib.Core.Path.{_≡_};
-ghost use lib.ListN.{drop};
-ghost use Rattle.texts.specs.Text.{scaleAt, textFields, textElement, textReading};
+ghost use Rattle.texts.specs.Text.{textElement, textReading};
 use crate::fonts::Scaled;
 use crate::fonts::font_info;
 use elements::data_span::DataSpan;
@@ -9,9 +8,9 @@ use elements::label_element::LabelElement;
 use elements::label_position::LabelPosition;
 use elements::refusal::Refusal;
 use elements::text_field::TextField;
-use parameters::params::has_fields;
 use parameters::params::is_exactly;
 use parameters::params::number_from;
+use parameters::params::reaches;
 use parameters::params::rest_from;
 use parameters::params::size_from;
 use parameters::position::Placed;
@@ -29,40 +28,6 @@ pub struct TextFields {
     pub rotation: i32,
     pub font: i32,
     pub scale: Scale,
-}
-
-// The fifth field on, from its place: multipliers and reverse.
-fn scale_from(s: &[u8], at: usize) -> Scale
-    ensures { λ r. ⌜ r ≡ scaleAt (drop at (now (s .entry))) ⌝ }
-{
-    let h = size_from(s, at, 1);
-    let v = size_from(s, h.next, 1);
-    let reverse = is_exactly(rest_from(s, v.next), b'R');
-    Scale {
-        h_mult: h.value,
-        v_mult: v.value,
-        reverse,
-    }
-}
-
-pub fn text_fields(s: &[u8]) -> TextFields
-    ensures { λ r. ⌜ r ≡ textFields (now (s .entry)) ⌝ }
-{
-    let x = number_from(s, 0, 0);
-    let y = number_from(s, x.next, 0);
-    let at = LabelPosition {
-        x: x.value,
-        y: y.value,
-    };
-    let rotation = number_from(s, y.next, 0);
-    let font = number_from(s, rotation.next, 1);
-    let scale = scale_from(s, font.next);
-    TextFields {
-        at,
-        rotation: rotation.value,
-        font: font.value,
-        scale,
-    }
 }
 
 // The text at a reference, or 13.
@@ -85,12 +50,34 @@ pub fn text_element(f: TextFields, span: DataSpan, reference: LabelPosition) -> 
     }))
 }
 
-// A line's parameters and data, at a reference.
+// A line's parameters and data, at a reference. The fields are counted only where nothing stands behind the sixth.
 pub fn parse_epl_text(params: &[u8], span: DataSpan, reference: LabelPosition) -> Reading
     ensures { λ r. ⌜ r ≡ textReading (now (params .entry)) span reference ⌝ }
 {
-    if !has_fields(params, 7) {
+    let x = number_from(params, 0, 0);
+    let y = number_from(params, x.next, 0);
+    let rotation = number_from(params, y.next, 0);
+    let font = number_from(params, rotation.next, 1);
+    let h_mult = size_from(params, font.next, 1);
+    let v_mult = size_from(params, h_mult.next, 1);
+    if !reaches(v_mult.next < params.len(), params, 7) {
         return Reading::Refused(Refusal::TextFields);
     }
-    text_element(text_fields(params), span, reference)
+    let reverse = is_exactly(rest_from(params, v_mult.next), b'R');
+    let at = LabelPosition {
+        x: x.value,
+        y: y.value,
+    };
+    let scale = Scale {
+        h_mult: h_mult.value,
+        v_mult: v_mult.value,
+        reverse,
+    };
+    let fields = TextFields {
+        at,
+        rotation: rotation.value,
+        font: font.value,
+        scale,
+    };
+    text_element(fields, span, reference)
 }

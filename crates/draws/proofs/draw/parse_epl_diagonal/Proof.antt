@@ -4,19 +4,23 @@ use mathlib.Core.Path.{_∙_}
 use Rattle.text.proofs.IntLaws.{back32}
 use Rattle.parameters.proofs.ParamsLaws.{too-few, enough}
 use Rattle.draws.specs.Draw.{diagonalReading}
+use Rattle.draws.proofs.DrawLaws.{corners-are, five}
 use borrow.Author.Needs.{needs}
 use Rattle.draws.proofs.draw.parse_epl_diagonal.Statement.{statement}
 use Rattle.draws.proofs.draw.parse_epl_diagonal.Tie as tie
 
-has-fields-requires : tie.Need-has-fields-requires
-has-fields-requires c κs = search needs
+read-corners-requires : tie.Need-read-corners-requires
+read-corners-requires c κs = search needs
+
+reaches-requires : tie.Need-reaches-requires
+reaches-requires c κs = search needs
 
 returns : tie.Need-returns
 unfolding diagonalReading
-returns c = too-few _ _ _ _ (c .before .has-fields .ensures) (c .if1 .taken)
-
-corners-at-requires : tie.Need-corners-at-requires
-corners-at-requires c κs = search needs
+returns c =
+    let n = c .before in
+    let k = n .before .read-corners in
+    too-few _ _ _ _ (five _ (k .ensures) (n .reaches .ensures)) (c .if1 .taken)
 
 drawn-at-requires : tie.Need-drawn-at-requires
 drawn-at-requires c κs = search needs
@@ -28,17 +32,18 @@ returns-2 : tie.Need-returns-2
 unfolding diagonalReading
 returns-2 c =
     let e = c .before .before .before .before in
-    let k = c .before .before .before .corners-at in
-    rw (← k .ensures, ← c .before .before .drawn-at .ensures)
-    ((simp (back32 (k .result .thickness) (c .before .struct-told .given .1 .0 .1)) at (c .diagonal .ensures)) ∙ enough _ _ _ _ (e .before .has-fields .ensures) (e .if1 .left))
+    let n = e .before in
+    let k = n .before .read-corners in
+    rw (← corners-are _ (k .ensures), ← c .before .before .drawn-at .ensures)
+    ((simp (back32 (k .result .corners .thickness) (c .before .struct-told .given .1 .0 .1)) at (c .diagonal .ensures)) ∙ enough _ _ _ _ (five _ (k .ensures) (n .reaches .ensures)) (e .if1 .left))
 
 pub parse-epl-diagonal-spec : {M : Type 1} → statement M
 parse-epl-diagonal-spec =
     tie.close
     (tie.spec
-    has-fields-requires
+    read-corners-requires
+    reaches-requires
     returns
-    corners-at-requires
     drawn-at-requires
     diagonal-requires
     returns-2)

@@ -1,32 +1,101 @@
--- `draws::draw::parse_epl_line` meets its contract: the number of fields decides, and then the calls compose.
+-- `draws::draw::parse_epl_line` meets its contract: its calls read the four fields in order, and their number decides.
 -- Assumes nothing.
-use mathlib.Core.Path.{_∙_}
-use Rattle.parameters.proofs.ParamsLaws.{too-few, enough}
-use Rattle.draws.specs.Draw.{lineReading}
+use mathlib.Core.Path.{_≡_, refl, _∙_}
+use mathlib.Core.List.{List}
+use Prim.Native.Nat.{ℕ}
+use lib.Dec.{leb}
+use lib.ListN.{length, drop}
+use Rattle.text.specs.Fields.{fields}
+use Rattle.text.proofs.IntLaws.{back32}
+use Rattle.parameters.specs.Params.{pointAt}
+use Rattle.parameters.proofs.ParamsLaws.{too-few, enough, afters, reached}
+use Rattle.parameters.proofs.PlaceLaws.{number-value, number-next, size-value, size-next}
+use Rattle.draws.specs.Draw.{lineFields, lineReading}
 use borrow.Author.Needs.{needs}
 use Rattle.draws.proofs.draw.parse_epl_line.Statement.{statement}
 use Rattle.draws.proofs.draw.parse_epl_line.Tie as tie
 
-has-fields-requires : tie.Need-has-fields-requires
-has-fields-requires c κs = search needs
+-- where each field stands
+module _ (d : tie.After-size-from) where
+  abbrev y : tie.After-number-from2
+  y = d .before
+
+  abbrev x : tie.After-number-from
+  x = y .before
+
+  abbrev s : List ℕ
+  s = x .before .before .args .params .now
+
+  at-y : drop (x .number-from .result .next) s ≡ afters 1 s
+  at-y = number-next _ _ _ refl (x .number-from .ensures)
+
+  at-w : drop (y .number-from2 .result .next) s ≡ afters 2 s
+  at-w = number-next _ _ _ at-y (y .number-from2 .ensures)
+
+  at-h : drop (d .size-from .result .next) s ≡ afters 3 s
+  at-h = size-next _ _ _ at-w (d .size-from .ensures)
+
+counted : (d : tie.After-reaches) → d .reaches .result ≡ leb 4 (length (fields (s (d .before .before))))
+counted d = let w = d .before .before in reached 3 (s w) (s w) (w .size-from .result .next) (at-h w) refl (d .reaches .ensures)
+
+number-from-requires : tie.Need-number-from-requires
+number-from-requires c κs = search needs
+
+number-from-requires-2 : tie.Need-number-from-requires-2
+number-from-requires-2 c κs = search needs
+
+size-from-requires : tie.Need-size-from-requires
+size-from-requires c κs = search needs
+
+reaches-requires : tie.Need-reaches-requires
+reaches-requires c κs = search needs
 
 returns : tie.Need-returns
 unfolding lineReading
-returns c = too-few _ _ _ _ (c .before .has-fields .ensures) (c .if1 .taken)
+returns c = too-few _ _ _ _ (counted (c .before)) (c .if1 .taken)
 
-line-fields-requires : tie.Need-line-fields-requires
-line-fields-requires c κs = search needs
+size-from-requires-2 : tie.Need-size-from-requires-2
+size-from-requires-2 c κs = search needs
 
 line-element-requires : tie.Need-line-element-requires
 line-element-requires c κs = search needs
 
 returns-2 : tie.Need-returns-2
-unfolding lineReading
+unfolding lineReading lineFields pointAt
 returns-2 c =
-    let e = c .before .before in
-    rw (← c .before .line-fields .ensures) (c .line-element .ensures ∙ enough _ _ _ _ (e .before .has-fields .ensures) (e .if1 .left))
+    let told4 = c .before in
+    let told3 = told4 .before in
+    let told2 = told3 .before in
+    let told = told2 .before in
+    let h = told .before in
+    let left = h .before in
+    let d = left .before .before .before in
+    let plain =
+        simp (
+          back32 (x d .number-from .result .value) (told .struct-told .given .0 .1),
+          back32 (y d .number-from2 .result .value) (told2 .struct-told2 .given .0 .1),
+          back32 (d .size-from .result .value) (told3 .struct-told3 .given .0 .1),
+          back32 (h .size-from2 .result .value) (told4 .struct-told4 .given .0 .1),
+        )
+        at (c .line-element .ensures) in
+    (simp (
+      number-value _ _ _ refl (x d .number-from .ensures),
+      number-value _ _ _ (at-y d) (y d .number-from2 .ensures),
+      size-value _ _ _ (at-w d) (d .size-from .ensures),
+      size-value _ _ _ (at-h d) (h .size-from2 .ensures),
+    )
+    at plain)
+    ∙ enough _ _ _ _ (counted (left .before)) (left .if1 .left)
 
 pub parse-epl-line-spec : {M : Type 1} → statement M
 parse-epl-line-spec =
     tie.close
-    (tie.spec has-fields-requires returns line-fields-requires line-element-requires returns-2)
+    (tie.spec
+    number-from-requires
+    number-from-requires-2
+    size-from-requires
+    reaches-requires
+    returns
+    size-from-requires-2
+    line-element-requires
+    returns-2)

@@ -1,59 +1,19 @@
--- `parameters::field_reader::number_at_place` meets its contract: past the end, digits up to the end or a comma, or any field.
+-- `parameters::field_reader::number_at_place` meets its contract: past the end, or any field.
 -- Assumes nothing.
-use mathlib.Core.Path.{_≡_}
-use native.Mathlib.Omega.{arith}
-use lib.IntN.{pos}
-use mir.Syntax.{w32}
-use mir.Val.{toZ}
-use mir.Facts.{toZ-ofZ, toZ-pos}
-use Rattle.parameters.proofs.PlaceLaws.{past-end, plain-comma, plain-end}
+use mir.Facts.{toZ-ofZ}
+use Rattle.parameters.proofs.PlaceLaws.{past-end}
 use borrow.Author.Needs.{needs}
 use Rattle.parameters.proofs.field_reader.number_at_place.Statement.{statement}
 use Rattle.parameters.proofs.field_reader.number_at_place.Tie as tie
 
-cast : (d : tie.After-digits-from) → toZ w32 (d .digits-from .result .value) ≡ pos (d .digits-from .result .value)
-cast d = toZ-pos w32 {n = d .digits-from .result .value} (omega arith)
-
 returns : tie.Need-returns
 returns c = rw (toZ-ofZ (c .before .before .fits .default)) (past-end _ _ _ (c .if1 .taken))
-
-digits-from-requires : tie.Need-digits-from-requires
-digits-from-requires c κs = search needs
-
-cast-value : tie.Need-cast-value
-cast-value c = search needs
-
-returns-2 : tie.Need-returns-2
-returns-2 c = let d = c .before .before .before in rw (cast d) (plain-end _ _ _ _ (d .digits-from .ensures) (c .before .if2 .taken) (c .if3 .taken))
-
-shared-slice-read-if4 : tie.Need-shared-slice-read-if4
-shared-slice-read-if4 c = search needs
-
-add-t14 : tie.Need-add-t14
-add-t14 c = search needs
-
-returns-3 : tie.Need-returns-3
-returns-3 c =
-    let t = c .before .before .before in
-    let d = t .before .before in
-    rw (cast d) (plain-comma _ _ _ _ (d .digits-from .ensures) (t .if2 .taken) (search needs) (c .if4 .taken))
 
 any-from-requires : tie.Need-any-from-requires
 any-from-requires c κs = search needs
 
-returns-4 : tie.Need-returns-4
-returns-4 c = simp (toZ-ofZ (c .before .before .before .before .before .before .fits .default)) at (c .any-from .ensures)
+returns-2 : tie.Need-returns-2
+returns-2 c = simp (toZ-ofZ (c .before .before .before .fits .default)) at (c .any-from .ensures)
 
 pub number-at-place-spec : {M : Type 1} → statement M
-number-at-place-spec =
-    tie.close
-    (tie.spec
-    returns
-    digits-from-requires
-    cast-value
-    returns-2
-    shared-slice-read-if4
-    add-t14
-    returns-3
-    any-from-requires
-    returns-4)
+number-at-place-spec = tie.close (tie.spec returns any-from-requires returns-2)

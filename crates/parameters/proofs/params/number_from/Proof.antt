@@ -1,4 +1,4 @@
--- `parameters::params::number_from` meets its contract: one digit, or any field. Assumes nothing.
+-- `parameters::params::number_from` meets its contract: one digit, or what `digits_or_field` reads. Assumes nothing.
 use mathlib.Core.Path.{_≡_, sym, _∙_}
 use mathlib.Core.Bool.{true}
 use Prim.Native.Nat.{_+_, _-_, _<_, _≤_}
@@ -46,11 +46,11 @@ returns c =
     let a = t .before .before .before .args in
     rw (toZ-pos w32 {n = getD (a .s .now) (a .at) 0 - 48} (omega (arith, high t))) (one-is (a .s .now) (a .at) (told t) (a .default))
 
-field-from-requires : tie.Need-field-from-requires
-field-from-requires c κs = search needs
+digits-or-field-requires : tie.Need-digits-or-field-requires
+digits-or-field-requires c κs = search needs
 
 returns-2 : tie.Need-returns-2
-returns-2 c = simp (toZ-ofZ (c .before .before .before .before .fits .default)) at (c .field-from .ensures)
+returns-2 c = simp (toZ-ofZ (c .before .before .before .before .fits .default)) at (c .digits-or-field .ensures)
 
 pub number-from-spec : {M : Type 1} → statement M
 number-from-spec =
@@ -62,5 +62,5 @@ number-from-spec =
     cast-t8
     add-t9
     returns
-    field-from-requires
+    digits-or-field-requires
     returns-2)

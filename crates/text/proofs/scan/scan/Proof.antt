@@ -50,11 +50,17 @@ loop-again c =
     let e : c .before .window .result ≡ 64 = omega arith in
     (omega arith, none-join (l .inv .1) (rw e at (f .before)))
 
+by-four-requires : tie.Need-by-four-requires Inv-loop μ-loop
+by-four-requires c κs = search needs
+
 by-one-requires : tie.Need-by-one-requires Inv-loop μ-loop
-by-one-requires c κs = search needs
+by-one-requires c κs = c .by-four .ensures .high
 
 returns-2 : tie.Need-returns-2 Inv-loop μ-loop
-returns-2 c = let l = c .before .before .loop in first-join (omega arith) (l .inv .1) (c .by-one .ensures)
+returns-2 c =
+    let l = c .before .before .before .loop in
+    let p = c .before .by-four .ensures in
+    first-join (omega arith) (none-join (l .inv .1) (p .before)) (c .by-one .ensures)
 
 pub scan-spec : {M : Type 1} → statement M
 scan-spec =
@@ -71,5 +77,6 @@ scan-spec =
     add-i
     loop-less
     loop-again
+    by-four-requires
     by-one-requires
     returns-2)

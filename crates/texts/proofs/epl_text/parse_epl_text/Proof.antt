@@ -1,32 +1,144 @@
--- `texts::epl_text::parse_epl_text` meets its contract: the number of fields decides.
+-- `texts::epl_text::parse_epl_text` meets its contract: its calls read the seven fields in order, and their number decides.
 -- Assumes nothing.
-use mathlib.Core.Path.{_∙_}
-use Rattle.parameters.proofs.ParamsLaws.{too-few, enough}
-use Rattle.texts.specs.Text.{textReading}
+use mathlib.Core.Path.{_≡_, refl, _∙_}
+use mathlib.Core.List.{List}
+use Prim.Native.Nat.{ℕ}
+use lib.Dec.{leb}
+use lib.ListN.{length, drop}
+use Rattle.text.specs.Fields.{fields}
+use Rattle.text.proofs.IntLaws.{back32}
+use Rattle.parameters.specs.Params.{pointAt}
+use Rattle.parameters.proofs.ParamsLaws.{too-few, enough, afters, reached}
+use Rattle.parameters.proofs.PlaceLaws.{number-value, number-next, size-value, size-next}
+use Rattle.texts.specs.Text.{scaleAt, textFields, textReading}
 use borrow.Author.Needs.{needs}
 use Rattle.texts.proofs.epl_text.parse_epl_text.Statement.{statement}
 use Rattle.texts.proofs.epl_text.parse_epl_text.Tie as tie
 
-has-fields-requires : tie.Need-has-fields-requires
-has-fields-requires c κs = search needs
+-- where each field stands
+module _ (d : tie.After-size-from2) where
+  abbrev h : tie.After-size-from
+  h = d .before
+
+  abbrev f : tie.After-number-from4
+  f = h .before
+
+  abbrev r : tie.After-number-from3
+  r = f .before
+
+  abbrev y : tie.After-number-from2
+  y = r .before
+
+  abbrev x : tie.After-number-from
+  x = y .before
+
+  abbrev s : List ℕ
+  s = x .before .before .args .params .now
+
+  at-y : drop (x .number-from .result .next) s ≡ afters 1 s
+  at-y = number-next _ _ _ refl (x .number-from .ensures)
+
+  at-r : drop (y .number-from2 .result .next) s ≡ afters 2 s
+  at-r = number-next _ _ _ at-y (y .number-from2 .ensures)
+
+  at-f : drop (r .number-from3 .result .next) s ≡ afters 3 s
+  at-f = number-next _ _ _ at-r (r .number-from3 .ensures)
+
+  at-h : drop (f .number-from4 .result .next) s ≡ afters 4 s
+  at-h = number-next _ _ _ at-f (f .number-from4 .ensures)
+
+  at-v : drop (h .size-from .result .next) s ≡ afters 5 s
+  at-v = size-next _ _ _ at-h (h .size-from .ensures)
+
+  at-reverse : drop (d .size-from2 .result .next) s ≡ afters 6 s
+  at-reverse = size-next _ _ _ at-v (d .size-from2 .ensures)
+
+counted : (d : tie.After-reaches) → d .reaches .result ≡ leb 7 (length (fields (s (d .before .before))))
+counted d = let v = d .before .before in reached 6 (s v) (s v) (v .size-from2 .result .next) (at-reverse v) refl (d .reaches .ensures)
+
+number-from-requires : tie.Need-number-from-requires
+number-from-requires c κs = search needs
+
+number-from-requires-2 : tie.Need-number-from-requires-2
+number-from-requires-2 c κs = search needs
+
+number-from-requires-3 : tie.Need-number-from-requires-3
+number-from-requires-3 c κs = search needs
+
+number-from-requires-4 : tie.Need-number-from-requires-4
+number-from-requires-4 c κs = search needs
+
+size-from-requires : tie.Need-size-from-requires
+size-from-requires c κs = search needs
+
+size-from-requires-2 : tie.Need-size-from-requires-2
+size-from-requires-2 c κs = search needs
+
+reaches-requires : tie.Need-reaches-requires
+reaches-requires c κs = search needs
 
 returns : tie.Need-returns
 unfolding textReading
-returns c = too-few _ _ _ _ (c .before .has-fields .ensures) (c .if1 .taken)
+returns c = too-few _ _ _ _ (counted (c .before)) (c .if1 .taken)
 
-text-fields-requires : tie.Need-text-fields-requires
-text-fields-requires c κs = search needs
+rest-from-requires : tie.Need-rest-from-requires
+rest-from-requires c κs = search needs
+
+is-exactly-requires : tie.Need-is-exactly-requires
+is-exactly-requires c κs = search needs
 
 text-element-requires : tie.Need-text-element-requires
 text-element-requires c κs = search needs
 
 returns-2 : tie.Need-returns-2
-unfolding textReading
+unfolding textReading textFields pointAt scaleAt
 returns-2 c =
-    let e = c .before .before in
-    rw (← c .before .text-fields .ensures) (c .text-element .ensures ∙ enough _ _ _ _ (e .before .has-fields .ensures) (e .if1 .left))
+    let told6 = c .before in
+    let told5 = told6 .before in
+    let told4 = told5 .before in
+    let told3 = told4 .before in
+    let told2 = told3 .before in
+    let told = told2 .before in
+    let e = told .before in
+    let left = e .before .before in
+    let d = left .before .before .before in
+    let plain =
+        simp (
+          back32 (x d .number-from .result .value) (told .struct-told .given .0 .1),
+          back32 (y d .number-from2 .result .value) (told2 .struct-told2 .given .0 .1),
+          back32 (h d .size-from .result .value) (told3 .struct-told3 .given .0 .1),
+          back32 (d .size-from2 .result .value) (told4 .struct-told4 .given .0 .1),
+          back32 (r d .number-from3 .result .value) (told5 .struct-told5 .given .0 .1),
+          back32 (f d .number-from4 .result .value) (told6 .struct-told6 .given .0 .1),
+        )
+        at (c .text-element .ensures) in
+    (simp (
+      number-value _ _ _ refl (x d .number-from .ensures),
+      number-value _ _ _ (at-y d) (y d .number-from2 .ensures),
+      number-value _ _ _ (at-r d) (r d .number-from3 .ensures),
+      number-value _ _ _ (at-f d) (f d .number-from4 .ensures),
+      size-value _ _ _ (at-h d) (h d .size-from .ensures),
+      size-value _ _ _ (at-v d) (d .size-from2 .ensures),
+      e .is-exactly .ensures,
+      e .before .rest-from .ensures,
+      at-reverse d,
+    )
+    at plain)
+    ∙ enough _ _ _ _ (counted (left .before)) (left .if1 .left)
 
 pub parse-epl-text-spec : {M : Type 1} → statement M
 parse-epl-text-spec =
     tie.close
-    (tie.spec has-fields-requires returns text-fields-requires text-element-requires returns-2)
+    (tie.spec
+    number-from-requires
+    number-from-requires-2
+    number-from-requires-3
+    number-from-requires-4
+    size-from-requires
+    size-from-requires-2
+    reaches-requires
+    returns
+    rest-from-requires
+    is-exactly-requires
+    text-element-requires
+    returns-2)

@@ -1,4 +1,4 @@
--- `parameters::field_reader::digits_from` meets its contract, which is its loop's invariant. Measure: s's length less end.
+-- `parameters::params::digits_from` meets its contract, which is its loop's invariant. Measure: s's length less end.
 -- Assumes nothing.
 use mathlib.Core.Path.{_≡_, sym, _∙_}
 use mathlib.Core.Bool.{true}
@@ -11,8 +11,8 @@ use Rattle.text.proofs.BoolLaws.{within-low, within-high}
 use Rattle.parameters.specs.Params.{Ran}
 use Rattle.parameters.proofs.PlaceLaws.{ran-digit}
 use borrow.Author.Needs.{needs}
-use Rattle.parameters.proofs.field_reader.digits_from.Statement.{statement}
-use Rattle.parameters.proofs.field_reader.digits_from.Tie as tie
+use Rattle.parameters.proofs.params.digits_from.Statement.{statement}
+use Rattle.parameters.proofs.params.digits_from.Tie as tie
 
 abbrev Inv-loop : tie.InvT-loop
 Inv-loop s at value₀ end₀ value end = Ran s at (record { value = value; end = end })

@@ -1,0 +1,57 @@
+-- `parameters::params::is_alone` meets its contract, by the length of s.
+-- Assumes nothing.
+use mathlib.Core.Path.{_≡_, refl, ap, _∙_}
+use mathlib.Core.Bool.{Bool, false, _&&_}
+use mathlib.Core.List.{List, [], _∷_}
+use Prim.Native.Nat.{ℕ}
+use native.Mathlib.Omega.{arith}
+use lib.Dec.{eqb}
+use lib.ListN.{length, getD}
+use Rattle.parameters.specs.Params.{alone}
+use Rattle.parameters.proofs.ParamsLaws.{alone-one, alone-more}
+use borrow.Author.Needs.{needs}
+use Rattle.parameters.proofs.params.is_alone.Statement.{statement}
+use Rattle.parameters.proofs.params.is_alone.Tie as tie
+
+none : (s : List ℕ) → length s ≡ 0 → false ≡ alone s
+none [] h = refl
+none (a ∷ s) h = absurd (omega arith)
+
+returns : tie.Need-returns
+returns c = none (c .before .before .args .s .now) (c .if1 .taken)
+
+shared-slice-read-is-mark : tie.Need-shared-slice-read-is-mark
+shared-slice-read-is-mark c = search needs
+
+is-mark-requires : tie.Need-is-mark-requires
+is-mark-requires c κs = search needs
+
+returns-2 : tie.Need-returns-2
+returns-2 c = c .is-mark .ensures ∙ alone-one (c .before .before .before .before .before .args .s .now) (c .before .before .if2 .taken)
+
+shared-slice-read-is-mark-2 : tie.Need-shared-slice-read-is-mark-2
+shared-slice-read-is-mark-2 c = search needs
+
+is-mark-requires-2 : tie.Need-is-mark-requires-2
+is-mark-requires-2 c κs = search needs
+
+shared-slice-read-result : tie.Need-shared-slice-read-result
+shared-slice-read-result c = search needs
+
+returns-3 : tie.Need-returns-3
+returns-3 c =
+    let s = c .before .before .before .before .before .before .args .s .now in
+    ap (λ (x : Bool). x && eqb (getD s 1 0) 44) (c .before .is-mark2 .ensures) ∙ alone-more s (omega arith)
+
+pub is-alone-spec : {M : Type 1} → statement M
+is-alone-spec =
+    tie.close
+    (tie.spec
+    returns
+    shared-slice-read-is-mark
+    is-mark-requires
+    returns-2
+    shared-slice-read-is-mark-2
+    is-mark-requires-2
+    shared-slice-read-result
+    returns-3)
