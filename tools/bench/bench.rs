@@ -45,34 +45,56 @@ fn room(size: usize) -> Vec<u8> {
     vec![0; size + size / 6 + 1]
 }
 
-/// Nanoseconds a byte: the best of many turns, each over all the inputs, one after the other.
-fn time_all(function: &Function, inputs: &[Vec<u8>]) -> f64 {
-    let bytes: usize = inputs.iter().map(Vec::len).sum();
-    let mut outs: Vec<Vec<u8>> = inputs.iter().map(|input| room(input.len())).collect();
-    let (mut best, begun) = (Duration::MAX, Instant::now());
-    let mut turns = 0;
-    while turns < 3 || (begun.elapsed() < Duration::from_millis(400) && turns < 1000) {
+/// A function over inputs, one after the other.
+struct Job<'a> {
+    function: &'a Function,
+    inputs: &'a [Vec<u8>],
+    outs: Vec<Vec<u8>>,
+    best: Duration,
+}
+
+impl<'a> Job<'a> {
+    fn new(function: &'a Function, inputs: &'a [Vec<u8>]) -> Job<'a> {
+        Job { function, inputs, outs: inputs.iter().map(|input| room(input.len())).collect(), best: Duration::MAX }
+    }
+
+    fn call(&mut self) {
         let start = Instant::now();
-        for (input, out) in inputs.iter().zip(&mut outs) {
-            black_box(measured(function, input, out));
+        for (input, out) in self.inputs.iter().zip(&mut self.outs) {
+            black_box(measured(self.function, input, out));
         }
-        best = best.min(start.elapsed());
+        self.best = self.best.min(start.elapsed());
+    }
+
+    fn nanoseconds_a_byte(&self) -> f64 {
+        self.best.as_nanos() as f64 / self.inputs.iter().map(Vec::len).sum::<usize>() as f64
+    }
+}
+
+/// Nanoseconds a byte of each job, the best of many calls. The jobs take turns, so that whatever else the machine does meets all of them; each is called
+/// twice in its turn, so that its second call finds in the caches what they can hold.
+fn times_of<const N: usize>(mut jobs: [Job; N]) -> [f64; N] {
+    let (begun, mut turns) = (Instant::now(), 0);
+    while turns < 3 || (begun.elapsed() < Duration::from_secs(1) && turns < 500) {
+        for job in &mut jobs {
+            job.call();
+            job.call();
+        }
         turns += 1;
         if begun.elapsed() > Duration::from_secs(10) {
             break;
         }
     }
-    best.as_nanos() as f64 / bytes as f64
+    jobs.map(|job| job.nanoseconds_a_byte())
 }
 
-fn time(function: &Function, input: &[u8]) -> f64 {
-    time_all(function, &[input.to_vec()])
-}
-
-/// How many times the time of a file of 1 MiB a file of 16 MiB takes. Sixteen files of 1 MiB stand for the one, so that neither finds its bytes in a cache.
-fn growth(function: &Function, kind: &Kind) -> f64 {
+/// How many times the time of 1 MiB a file of 16 MiB takes: beside one file of 1 MiB, which a cache may hold, and beside a sixteenth of sixteen such files,
+/// which none holds.
+fn growth(function: &Function, kind: &Kind) -> [f64; 2] {
+    let large = [(kind.make)(16 * MIB)];
     let small: Vec<Vec<u8>> = (0..16).map(|_| (kind.make)(MIB)).collect();
-    16.0 * time(function, &(kind.make)(16 * MIB)) / time_all(function, &small)
+    let [one, sixteen, whole] = times_of([Job::new(function, &small[..1]), Job::new(function, &small), Job::new(function, &large)]);
+    [16.0 * whole / one, 16.0 * whole / sixteen]
 }
 
 /// The Rust takes minutes to hours on hostile blocks of more than this.
@@ -99,13 +121,13 @@ fn table(ours: &Function, rust: &Function) -> Vec<[(f64, f64); SIZES.len()]> {
 }
 
 fn row(kind: &Kind, size: usize, ours: &Function, rust: &Function) -> (f64, f64) {
-    let input = (kind.make)(size);
-    let mine = time(ours, &input);
+    let input = [(kind.make)(size)];
     if kind.hostile && size > HOSTILE_LIMIT {
+        let [mine] = times_of([Job::new(ours, &input)]);
         println!("| {} | {} | {mine:.3} | not run | |", kind.name, size_name(size));
         return (mine, f64::NAN);
     }
-    let theirs = time(rust, &input);
+    let [mine, theirs] = times_of([Job::new(ours, &input), Job::new(rust, &input)]);
     println!("| {} | {} | {mine:.3} | {theirs:.3} | {:.1} |", kind.name, size_name(size), theirs / mine);
     (mine, theirs)
 }
@@ -117,43 +139,55 @@ fn hostile() {
     println!("|---|---|---|---|---|");
     let kind = KINDS.iter().find(|kind| kind.hostile).unwrap();
     for size in [32 * KIB, 64 * KIB, 128 * KIB, 256 * KIB] {
-        let input = (kind.make)(size);
-        let [walk, parse, normalise, format] = [&WALK, &PARSE, &NORMALISE, &FORMAT].map(|function| time(function, &input));
+        let input = [(kind.make)(size)];
+        let [walk, parse, normalise, format] = times_of([&WALK, &PARSE, &NORMALISE, &FORMAT].map(|function| Job::new(function, &input)));
         println!("| {} | {walk:.2} | {parse:.0} | {normalise:.2} | {format:.0} |", size_name(size));
     }
 }
 
-/// The growth of every kind. Gives the greatest of ours.
-fn grown() -> f64 {
-    println!("\n16 MiB, times the time of 1 MiB\n");
-    println!("| input | walk | normalise |");
-    println!("|---|---|---|");
-    let mut most: f64 = 0.0;
+/// The growth of every kind. Gives the greatest of ours, in both readings.
+fn grown() -> [f64; 2] {
+    println!("\n16 MiB, times the time of 1 MiB: beside one file of 1 MiB, and beside sixteen of them\n");
+    println!("| input | walk, one | walk, sixteen | normalise, one | normalise, sixteen |");
+    println!("|---|---|---|---|---|");
+    let mut most: [f64; 2] = [0.0; 2];
     for kind in KINDS {
         let [walk, normalise] = [&WALK, &NORMALISE].map(|function| growth(function, kind));
-        println!("| {} | {walk:.1} | {normalise:.1} |", kind.name);
-        most = most.max(walk).max(normalise);
+        println!("| {} | {:.1} | {:.1} | {:.1} | {:.1} |", kind.name, walk[0], walk[1], normalise[0], normalise[1]);
+        most = [0, 1].map(|i| most[i].max(walk[i]).max(normalise[i]));
     }
+    let [one, sixteen] = growth(&COPY, graphics());
+    println!("\nA plain memory copy grows {one:.1} times beside one file and {sixteen:.1} times beside sixteen.");
     most
+}
+
+fn graphics() -> &'static Kind {
+    KINDS.iter().find(|kind| kind.name == "graphics").unwrap()
 }
 
 fn times() {
     let walks = table(&WALK, &PARSE);
     let texts = table(&NORMALISE, &FORMAT);
     hostile();
-    println!("\nPlain memory copy, nanoseconds a byte\n");
-    let graphics = KINDS.iter().position(|kind| kind.name == "graphics").unwrap();
-    let copies = SIZES.map(|size| time(&COPY, &(KINDS[graphics].make)(size)));
-    println!("{}", SIZES.iter().zip(copies).map(|(size, ns)| format!("{}: {ns:.3}", size_name(*size))).collect::<Vec<_>>().join(", "));
-
-    let grown = grown();
+    println!("\nNormalise on graphics beside a plain memory copy, nanoseconds a byte\n");
+    println!("| size | normalise | copy | times the copy |");
+    println!("|---|---|---|---|");
+    let mut beside: f64 = 0.0;
+    for size in SIZES {
+        let input = [(graphics().make)(size)];
+        let [normalise, copy] = times_of([Job::new(&NORMALISE, &input), Job::new(&COPY, &input)]);
+        println!("| {} | {normalise:.3} | {copy:.3} | {:.1} |", size_name(size), normalise / copy);
+        beside = beside.max(normalise / copy);
+    }
+    let [one, sixteen] = grown();
     println!("\nTargets\n");
     let least = |rows: &[(f64, f64)]| rows.iter().map(|(mine, theirs)| theirs / mine).fold(f64::MAX, f64::min);
+    let at = KINDS.iter().position(|kind| kind.name == graphics().name).unwrap();
     target("the walk on labels, times as fast as parse, at least 4", least(&walks[0]), |r| r >= 4.0);
-    target("normalise on graphics, times as fast as format_epl, at least 2", least(&texts[graphics]), |r| r >= 2.0);
-    let beside = texts[graphics].iter().zip(copies).map(|((mine, _), copy)| mine / copy).fold(0.0, f64::max);
+    target("normalise on graphics, times as fast as format_epl, at least 2", least(&texts[at]), |r| r >= 2.0);
     target("normalise on graphics, times the time of a copy, at most 3", beside, |r| r <= 3.0);
-    target("16 MiB, times the time of 1 MiB, at most 18", grown, |r| r <= 18.0);
+    target("16 MiB, times the time of one file of 1 MiB, at most 18", one, |r| r <= 18.0);
+    target("16 MiB, times the time of 1 MiB that no cache holds, at most 18", sixteen, |r| r <= 18.0);
 }
 
 fn target(words: &str, figure: f64, met: impl Fn(f64) -> bool) {

@@ -153,6 +153,6 @@ barcodePlaced f d placing.Outside = reading.Refused refusal.OutOfRange
 unfoldable pub barcodeAt : BarcodeFields → DataSpan → LabelPosition → Reading
 barcodeAt f d r = cond (isListed (f .symbology)) (barcodePlaced f d (placed (f .at .x) (f .at .y) r)) (reading.Refused refusal.BarcodeType)
 
--- "number at least 8", or 2
+-- "number at least .. 8", or 2
 unfoldable pub barcodeReading : List ℕ → DataSpan → LabelPosition → Reading
 barcodeReading s d r = cond (ltb (length (fields s)) 8) (reading.Refused refusal.BarcodeFields) (barcodeAt (barcodeFields s) d r)

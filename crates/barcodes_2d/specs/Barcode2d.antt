@@ -137,7 +137,7 @@ barcode2dAt Pdf417 s t p d = pdf417Reading s p d
 barcode2dAt Qr s t p d = qrReading s t p d
 barcode2dAt Unlisted s t p d = reading.Refused refusal.Barcode2dType
 
--- "number at least 3", or 3
+-- "number at least .. 3", or 3
 unfoldable pub barcode2dReading : List ℕ → List ℕ → DataSpan → LabelPosition → Reading
 barcode2dReading s t d r =
     cond (ltb (length (fields s)) 3) (reading.Refused refusal.Barcode2dFields)

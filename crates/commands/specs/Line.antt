@@ -53,6 +53,6 @@ commandReading Other lead t r = reading.Nothing
 abbrev pub leadOf : List ℕ → ℕ
 leadOf line = length line - length (trimStart line)
 
--- a line, "After its Unicode blanks are taken off both ends"; data is counted from the line's first byte
+-- a line, "After its Unicode blanks .. are taken off both ends"; data is counted from the line's first byte
 unfoldable pub readLine : List ℕ → LabelPosition → Reading
 readLine line r = commandReading (commandOf (trim line)) (leadOf line) (trim line) r

@@ -16,25 +16,25 @@ use Rattle.element_frames.proofs.PutLaws.{whole, retold}
 use Rattle.element_frames.proofs.PartLaws.{part-le, decode-part-le, part-local}
 
 -- the length of a frame: what its kind always has, and the data
-abbrev pub sizeOf : List ℕ → LabelElement → ℕ
-sizeOf s (Text e) = 31 + length (decode (part s (e .text)))
-sizeOf s (GraphicBox e) = 22
-sizeOf s (DiagonalLine e) = 22
-sizeOf s (GraphicField e) = 21 + length (part s (e .«data»))
-sizeOf s (Barcode128 e) = 24 + length (decode (part s (e .«data»)))
-sizeOf s (BarcodeEan13 e) = 23 + length (decode (part s (e .«data»)))
-sizeOf s (BarcodeEan8 e) = 23 + length (decode (part s (e .«data»)))
-sizeOf s (BarcodeUca e) = 23 + length (decode (part s (e .«data»)))
-sizeOf s (Barcode2of5 e) = 32 + length (decode (part s (e .«data»)))
-sizeOf s (Barcode39 e) = 32 + length (decode (part s (e .«data»)))
-sizeOf s (BarcodePdf417 e) = 35 + length (decode (part s (e .«data»)))
-sizeOf s (BarcodeAztec e) = 21 + length (decode (part s (e .«data»)))
-sizeOf s (BarcodeDatamatrix e) = 25 + length (decode (part s (e .«data»)))
-sizeOf s (BarcodeQr e) = 18 + length (decode (part s (e .«data»)))
-sizeOf s (Maxicode e) = 17 + length (decode (part s (e .«data»)))
-sizeOf s (BarcodeUcpe e) = 23 + length (decode (part s (e .«data»)))
+abbrev pub frameSize : List ℕ → LabelElement → ℕ
+frameSize s (Text e) = 31 + length (decode (part s (e .text)))
+frameSize s (GraphicBox e) = 22
+frameSize s (DiagonalLine e) = 22
+frameSize s (GraphicField e) = 21 + length (part s (e .«data»))
+frameSize s (Barcode128 e) = 24 + length (decode (part s (e .«data»)))
+frameSize s (BarcodeEan13 e) = 23 + length (decode (part s (e .«data»)))
+frameSize s (BarcodeEan8 e) = 23 + length (decode (part s (e .«data»)))
+frameSize s (BarcodeUca e) = 23 + length (decode (part s (e .«data»)))
+frameSize s (Barcode2of5 e) = 32 + length (decode (part s (e .«data»)))
+frameSize s (Barcode39 e) = 32 + length (decode (part s (e .«data»)))
+frameSize s (BarcodePdf417 e) = 35 + length (decode (part s (e .«data»)))
+frameSize s (BarcodeAztec e) = 21 + length (decode (part s (e .«data»)))
+frameSize s (BarcodeDatamatrix e) = 25 + length (decode (part s (e .«data»)))
+frameSize s (BarcodeQr e) = 18 + length (decode (part s (e .«data»)))
+frameSize s (Maxicode e) = 17 + length (decode (part s (e .«data»)))
+frameSize s (BarcodeUcpe e) = 23 + length (decode (part s (e .«data»)))
 
-pub length-frame : (s : List ℕ) (e : LabelElement) → length (frameOf s e) ≡ sizeOf s e
+pub length-frame : (s : List ℕ) (e : LabelElement) → length (frameOf s e) ≡ frameSize s e
 unfolding be32 head drawn bars plain ratioed rowed frameOf
 length-frame s (Text e) = omega arith
 length-frame s (GraphicBox e) = omega arith
@@ -55,7 +55,7 @@ length-frame s (BarcodeUcpe e) = omega arith
 
 -- an element that a match has told
 module _ (s : List ℕ) {e f : LabelElement} (h : e ≡ f) where
-  pub size-is : length (frameOf s e) ≡ sizeOf s f
+  pub size-is : length (frameOf s e) ≡ frameSize s f
   size-is = ap (λ (g : LabelElement). length (frameOf s g)) h ∙ length-frame s f
 
   pub told : {n l : List ℕ} {at k r : ℕ} → PutHex n l at (frameOf s f) k r → PutHex n l at (frameOf s e) (length (frameOf s e)) r

@@ -35,7 +35,7 @@ use Rattle.walk.specs.declared.state.WalkState.{WalkState}
 use Rattle.walk.specs.declared.state.Step.{Step}
 use Rattle.walk.specs.declared.state.Step.the-variants.{Element, Clear, Print, End, Refused}
 use Rattle.walk.proofs.state.Step.{enum}
-use Rattle.frames.specs.Listing.{FramedLabel, linesOf, labelLines, listingOf, outcomeOf, sizeOf, Lists, leadOf, textFrom}
+use Rattle.frames.specs.Listing.{FramedLabel, linesOf, labelLines, listingOf, outcomeOf, neededOf, Lists, frontFrames, textFrom}
 use Rattle.frames.specs.declared.listing.Listed.the-variants as listing
 
 -- ---- the length, as the first pass counts it: of the labels so far, and of what is pending
@@ -71,7 +71,7 @@ part-in s d = omega (arith, length-decode-le (part s d), length-take (d .len) (d
 frame-in : (s : List ℕ) (e : LabelElement) → length (frameOf s e) ≤ 35 + 3 * length s
 frame-in s e = by e (length-frame s e)
   where
-    by : (e : LabelElement) → length (frameOf s e) ≡ frame-laws.sizeOf s e → length (frameOf s e) ≤ 35 + 3 * length s
+    by : (e : LabelElement) → length (frameOf s e) ≡ frame-laws.frameSize s e → length (frameOf s e) ≤ 35 + 3 * length s
     by (Text e) q = omega (arith, part-in s (e .text))
     by (GraphicBox e) q = omega arith
     by (DiagonalLine e) q = omega arith
@@ -95,11 +95,11 @@ frame-len-le s e n q = rw q (min-le-left 4294967295 (length (frameOf s e)))
 pub frame-len-is : (s : List ℕ) (e : LabelElement) → length s ≤ longest → min 4294967295 (length (frameOf s e)) ≡ length (frameOf s e)
 frame-len-is s e h = min-eq-right (omega (arith, frame-in s e))
 
-size-cons : (f : Final) (k : ℕ) (l : FramedLabel) (ls : List FramedLabel) → longer k (sizeOf (ending f (l ∷ ls))) ≡ longer (k + length (labelLines l)) (sizeOf (ending f ls))
+size-cons : (f : Final) (k : ℕ) (l : FramedLabel) (ls : List FramedLabel) → longer k (neededOf (ending f (l ∷ ls))) ≡ longer (k + length (labelLines l)) (neededOf (ending f ls))
 size-cons accepted k l ls = ap bytes (omega (arith, length-append (labelLines l) (listingOf ls)))
 size-cons (refusal n p) k l ls = refl
 
-size-trace : (s : List ℕ) (k : ℕ) (p : List (List ℕ)) (t : Trace LabelElement Unit) → longer k (sizeOf (ending (final t) (labelsIn epl (List ℕ) frameOf s p t))) ≡ sizeFrom s k (length (linesOf p)) t
+size-trace : (s : List ℕ) (k : ℕ) (p : List (List ℕ)) (t : Trace LabelElement Unit) → longer k (neededOf (ending (final t) (labelsIn epl (List ℕ) frameOf s p t))) ≡ sizeFrom s k (length (linesOf p)) t
 size-trace s k p stops = ap bytes (add-zero k)
 size-trace s k p (refuses n j) = refl
 size-trace s k p (yields e t) = size-trace s k (p ++ (frameOf s e ∷ [])) t ∙ ap (λ (m : ℕ). sizeFrom s k m t) (length-lines p (frameOf s e))
@@ -109,8 +109,8 @@ size-trace s k p (prints n q t) =
     ∙ size-trace s (k + length (labelLines (record { count = n; says = q; frames = p }))) [] t
     ∙ ap (λ (m : ℕ). sizeFrom s (k + m) 0 t) (length-label n q p)
 
-pub size-is : (s : List ℕ) → sizeOf (outcomeOf s) ≡ sizeFrom s 0 0 (traceOf s fresh)
-size-is s = sym (longer-zero (sizeOf (outcomeOf s))) ∙ size-trace s 0 [] (traceOf s fresh)
+pub size-is : (s : List ℕ) → neededOf (outcomeOf s) ≡ sizeFrom s 0 0 (traceOf s fresh)
+size-is s = sym (longer-zero (neededOf (outcomeOf s))) ∙ size-trace s 0 [] (traceOf s fresh)
 
 -- ---- at a step: r is the answer of the step from w, and q what it was matched with
 -- the whole walk by the first step's answer
@@ -130,7 +130,7 @@ module _ (s : List ℕ) (w : WalkState) (r q : Step) (e : answerOf r ≡ step ep
   pub size-by : (total pend : ℕ) → sizeFrom s total pend (traceOf s w) ≡ sizeFrom s total pend (onStep s q)
   size-by total pend = ap (sizeFrom s total pend) begins
 
-  pub lead-by : linesOf (leadOf s w) ≡ linesOf (lead epl (List ℕ) frameOf s (onStep s q))
+  pub lead-by : linesOf (frontFrames s w) ≡ linesOf (lead epl (List ℕ) frameOf s (onStep s q))
   lead-by = ap (λ (t : Trace LabelElement Unit). linesOf (lead epl (List ℕ) frameOf s t)) begins
 
   module _ (start : WalkState) (h : after (traceOf s start) ≡ after (traceOf s w)) where
@@ -138,8 +138,8 @@ module _ (s : List ℕ) (w : WalkState) (r q : Step) (e : answerOf r ≡ step ep
     after-by = h ∙ ap after begins
 
     -- what is left from start, by what follows its elements
-    pub text-by : textFrom s start ≡ listingOf (labelsIn epl (List ℕ) frameOf s (leadOf s start) (after (onStep s q)))
-    text-by = ap listingOf (labels-after epl reads (List ℕ) frameOf s [] (traceOf s start) ∙ ap (labelsIn epl (List ℕ) frameOf s (leadOf s start)) after-by)
+    pub text-by : textFrom s start ≡ listingOf (labelsIn epl (List ℕ) frameOf s (frontFrames s start) (after (onStep s q)))
+    text-by = ap listingOf (labels-after epl reads (List ℕ) frameOf s [] (traceOf s start) ∙ ap (labelsIn epl (List ℕ) frameOf s (frontFrames s start)) after-by)
 
 -- an answer that is no element begins with none
 pub lead-none : (s : List ℕ) (q : Step) → OneOf (1 ∷ 2 ∷ 3 ∷ 4 ∷ []) (tagOf (declared enum) q) → linesOf (lead epl (List ℕ) frameOf s (onStep s q)) ≡ []
@@ -158,22 +158,22 @@ put-both {m} {n} {l} {at} {j} {r} xs ys a b =
     }
 
 -- ---- the answer of `list`, o being what the walk lists
-pub list-refused : (o : Outcome (List ℕ) Unit) (l : List ℕ) (k : Refusal) (p : ℕ) → refused (numberOf k) p ≡ sizeOf o → Lists l l o (listing.Refused k p)
+pub list-refused : (o : Outcome (List ℕ) Unit) (l : List ℕ) (k : Refusal) (p : ℕ) → refused (numberOf k) p ≡ neededOf o → Lists l l o (listing.Refused k p)
 list-refused (listed ls) l k p e = let z : _≡_ {A = ℕ} 0 1 = cc in absurd (omega arith)
 list-refused (refusal-of m q) l k p e = record { answer = e; buffer = refl }
 
-pub list-short : (o : Outcome (List ℕ) Unit) (l : List ℕ) (n : ℕ) → bytes n ≡ sizeOf o → length l < n → Lists l l o (listing.Refused OutputTooShort n)
+pub list-short : (o : Outcome (List ℕ) Unit) (l : List ℕ) (n : ℕ) → bytes n ≡ neededOf o → length l < n → Lists l l o (listing.Refused OutputTooShort n)
 list-short (listed ls) l n e h =
     let m : n ≡ length (listingOf ls) = cc in
     let b = lt-ltb (length l) (length (listingOf ls)) (omega arith) in
     record { answer = simp (b, m); buffer = simp b }
 list-short (refusal-of m q) l n e h = let z : _≡_ {A = ℕ} 0 1 = cc in absurd (omega arith)
 
-size-bytes : (f : Final) (ls : List FramedLabel) (n : ℕ) → bytes n ≡ sizeOf (ending f ls) → n ≡ length (listingOf ls)
+size-bytes : (f : Final) (ls : List FramedLabel) (n : ℕ) → bytes n ≡ neededOf (ending f ls) → n ≡ length (listingOf ls)
 size-bytes accepted ls n e = cc
 size-bytes (refusal m q) ls n e = let z : _≡_ {A = ℕ} 0 1 = cc in absurd (omega arith)
 
-written-by : (f : Final) (ls : List FramedLabel) (b l : List ℕ) (n r : ℕ) → bytes n ≡ sizeOf (ending f ls) → n ≤ length l → Put b l 0 (listingOf ls) r → Lists b l (ending f ls) (listing.Bytes r)
+written-by : (f : Final) (ls : List FramedLabel) (b l : List ℕ) (n r : ℕ) → bytes n ≡ neededOf (ending f ls) → n ≤ length l → Put b l 0 (listingOf ls) r → Lists b l (ending f ls) (listing.Bytes r)
 written-by accepted ls b l n r e h p =
     let m : n ≡ length (listingOf ls) = cc in
     let q = le-ltb (length l) (length (listingOf ls)) (omega arith) in
@@ -181,7 +181,7 @@ written-by accepted ls b l n r e h p =
     record { answer = simp (q, k); buffer = simp q (p .wrote .is) }
 written-by (refusal m q) ls b l n r e h p = let z : _≡_ {A = ℕ} 0 1 = cc in absurd (omega arith)
 
-module _ (s l : List ℕ) (n : ℕ) (e : bytes n ≡ sizeOf (outcomeOf s)) where
+module _ (s l : List ℕ) (n : ℕ) (e : bytes n ≡ neededOf (outcomeOf s)) where
   abbrev labelsNow : List FramedLabel
   labelsNow = labelsIn epl (List ℕ) frameOf s [] (traceOf s fresh)
 

@@ -41,9 +41,10 @@ abbrev pub givenOf : Listed → Given
 givenOf (Bytes n) = bytes n
 givenOf (Refused k p) = refused (numberOf k) p
 
-abbrev pub sizeOf : Outcome (List ℕ) Unit → Given
-sizeOf (listed ls) = bytes (length (listingOf ls))
-sizeOf (refusal-of n p) = refused n p
+-- how many bytes the listing has, or the refusal
+abbrev pub neededOf : Outcome (List ℕ) Unit → Given
+neededOf (listed ls) = bytes (length (listingOf ls))
+neededOf (refusal-of n p) = refused n p
 
 -- the walk's refusal, or 15 where the listing is longer than the m bytes of the buffer
 abbrev pub listedOf : Outcome (List ℕ) Unit → ℕ → Given
@@ -62,12 +63,12 @@ pub record Lists (n l : List ℕ) (o : Outcome (List ℕ) Unit) (r : Listed) : T
 
 -- ---- the parts
 -- the frames of the elements that the walk from w begins with
-abbrev pub leadOf : List ℕ → WalkState → List (List ℕ)
-leadOf s w = lead epl (List ℕ) frameOf s (traceOf s w)
+abbrev pub frontFrames : List ℕ → WalkState → List (List ℕ)
+frontFrames s w = lead epl (List ℕ) frameOf s (traceOf s w)
 
 -- the label of n of them
 abbrev pub labelText : List ℕ → ℕ → WalkState → List ℕ
-labelText s n w = labelLines (record { count = n; says = tt; frames = leadOf s w })
+labelText s n w = labelLines (record { count = n; says = tt; frames = frontFrames s w })
 
 -- the labels that the walk from w answers, nothing being pending
 abbrev pub textFrom : List ℕ → WalkState → List ℕ

@@ -3,7 +3,7 @@ ghost use mathlib.Core.Path.{_≡_};
 ghost use Prim.Native.Nat.{_+_, _≤_};
 ghost use lib.ListN.{length};
 ghost use Rattle.text.specs.Wrote.{Put};
-ghost use Rattle.frames.specs.Listing.{linesOf, leadOf, labelText, allText, givenOf, sizeOf, outcomeOf, Lists};
+ghost use Rattle.frames.specs.Listing.{linesOf, frontFrames, labelText, allText, givenOf, neededOf, outcomeOf, Lists};
 use element_frames::frame::frame_len;
 use element_frames::frame::put_count;
 use element_frames::frame::put_frame;
@@ -21,8 +21,8 @@ pub enum Listed {
 
 // The lines of the elements from st up to the first answer that is none.
 fn put_elements(input: &[u8], out: &mut [u8], at: usize, st: WalkState) -> usize
-    requires { ⌜ at + length (linesOf (leadOf (now input) st)) ≤ length (now out) ⌝ }
-    ensures { λ r. ⌜ Put (now (out .exit)) (now (out .entry)) at (linesOf (leadOf (now (input .entry)) st)) r ⌝ }
+    requires { ⌜ at + length (linesOf (frontFrames (now input) st)) ≤ length (now out) ⌝ }
+    ensures { λ r. ⌜ Put (now (out .exit)) (now (out .entry)) at (linesOf (frontFrames (now (input .entry)) st)) r ⌝ }
 {
     let mut to = at;
     let mut here = st;
@@ -78,7 +78,7 @@ fn put_labels(input: &[u8], out: &mut [u8]) -> usize
 
 // The length of the listing, or the refusal of the walk: one walk over the whole input, nothing written.
 pub fn measure(input: &[u8]) -> Listed
-    ensures { λ r. ⌜ givenOf r ≡ sizeOf (outcomeOf (now (input .entry))) ⌝ }
+    ensures { λ r. ⌜ givenOf r ≡ neededOf (outcomeOf (now (input .entry))) ⌝ }
 {
     let mut here = start();
     let mut total = 0;

@@ -70,7 +70,7 @@ pub record Command (t : List ℕ) : Type 0 where
   pub one-line : All notLf t
   -- "what follows its leading ASCII blanks within the line doesn't begin with `GW`"
   pub no-graphic : opensGw t ≡ false
-  -- "After its Unicode blanks are taken off both ends it must be well formed"
+  -- "After its Unicode blanks .. are taken off both ends it must be well formed"
   pub well-formed : wellFormed (trim t) ≡ true
 
 -- a unit stands before what follows it: a line is "ended by LF or, if not empty, by the end of input"

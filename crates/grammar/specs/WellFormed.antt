@@ -33,7 +33,7 @@ dataCounted Text s = atLeast 7 s
 dataCounted Barcode s = atLeast 8 s
 dataCounted Barcode2d s = atLeast 3 s
 
--- "its type, blanks off, in this list: fourth field of `B`, third of `b`"
+-- "its type, blanks off, in this list: fourth field of `B` .., third of `b` .."
 abbrev pub dataTyped : DataCommand → List ℕ → Bool
 dataTyped Text s = true
 dataTyped Barcode s = anyOf types (trim (field s 3))
@@ -77,19 +77,19 @@ sized Box t = true
 sized Print t = true
 sized Other t = true
 
--- a line with data that is not read asks for nothing
-abbrev pub passedOver : Command → List ℕ → Bool
-passedOver (Data c) t = not (isRead t)
-passedOver Clear t = true
-passedOver Reference t = true
-passedOver (Line c) t = false
-passedOver Diagonal t = false
-passedOver Box t = false
-passedOver Print t = true
-passedOver Other t = true
+-- a line whose data is not read asks for nothing; nor do `N`, `R`, a print line and one that is passed over
+abbrev pub asksNothing : Command → List ℕ → Bool
+asksNothing (Data c) t = not (isRead t)
+asksNothing Clear t = true
+asksNothing Reference t = true
+asksNothing (Line c) t = false
+asksNothing Diagonal t = false
+asksNothing Box t = false
+asksNothing Print t = true
+asksNothing Other t = true
 
 abbrev pub wellFormedAs : Command → List ℕ → Bool
-wellFormedAs c t = passedOver c t || (counted c t && typed c t && sized c t)
+wellFormedAs c t = asksNothing c t || (counted c t && typed c t && sized c t)
 
 unfoldable pub wellFormed : List ℕ → Bool
 wellFormed t = wellFormedAs (commandOf t) t

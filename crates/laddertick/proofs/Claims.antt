@@ -6,6 +6,8 @@ use Prim.Native.Nat.{ℕ, _≤_}
 use native.Mathlib.Omega.{arith}
 use lib.Dec.{ltb}
 use lib.ListN.{length, drop}
+use Rattle.text.proofs.WhiteLaws.{code-points-trim}
+use Rattle.texts.proofs.FontLaws.{width-exact}
 use Rattle.elements.specs.declared.label_element.LabelElement.{LabelElement}
 use Rattle.elements.specs.declared.label_position.LabelPosition.{LabelPosition}
 use Rattle.elements.specs.declared.refusal.Refusal.{Refusal}
@@ -26,6 +28,7 @@ use Rattle.whole.proofs.TraceLaws.{reach-outcome}
 use Rattle.grammar.specs.Epl.{origin, epl}
 use Rattle.grammar.proofs.FoundLaws.{reads}
 use Rattle.grammar.specs.Normal.{normal, blocks, normalised}
+use Rattle.grammar.proofs.NormalLaws.{length-normalised-le}
 use Rattle.grammar.proofs.Normalises.{normalises}
 use Rattle.grammar.proofs.ReadingLaws.{ill-formed, well-formed-range}
 use Rattle.walk.proofs.UnitLaws.{inside}
@@ -35,6 +38,7 @@ use Rattle.frames.proofs.PrintingLaws.{lists-kept}
 use Rattle.format.proofs.NormaliseLaws.{formats-kept}
 use Rattle.frames.proofs.Room.{length-listing-le, never-short}
 use Rattle.laddertick.specs.Claims.{Divides, Normalising, Demand3, Claims}
+use Rattle.laddertick.proofs.InsideLaws.{data-inside}
 use Rattle.laddertick.proofs.Starred.{starred}
 
 -- a frame looks only at the bytes of its own unit, wherever they stand
@@ -132,10 +136,12 @@ claims = record {
     step-hands-back = λ s st st′ n p h. hands-back s st st′ n p h;
     list-keeps = λ n l s k p w. lists-kept (outcomeOf s) n l k p w;
     normalise-keeps = λ n l s k p w. formats-kept n l s k p w;
+    data-inside = data-inside;
     numbered = numbered-of;
   };
-  demand2 = record { ill-formed = ill-formed; well-formed = well-formed-range; starred = starred };
+  demand2 = record { ill-formed = ill-formed; well-formed = well-formed-range; blanks = code-points-trim; widths = width-exact; starred = starred };
   demand3 = λ s short. demand-of s (walks s short);
   room = length-listing-le;
+  normalised-room = length-normalised-le;
   never-15 = never-short;
 }

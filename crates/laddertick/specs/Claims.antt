@@ -1,22 +1,27 @@
 -- What is claimed of the walk, of normalised text and of the listing, for every byte string of at most 16,777,216 bytes. Read first; each name leads to its
--- definition.
+-- definition. Quoted words are those of the three demands, or of 01.
 use mathlib.Core.Path.{_≡_}
 use mathlib.Core.Bool.{true, false}
 use mathlib.Core.List.{List, []}
-use Prim.Native.Nat.{ℕ, _+_, _*_, _/_, _≤_}
+use Prim.Native.Nat.{ℕ, _+_, _*_, _/_, _^_, _≤_, _<_}
+use lib.IntN.{pos}
+use lib.Ieee.{binary64, ofInt}
 use lib.ListN.{length}
-use Rattle.text.specs.Blank.{trim}
+use Rattle.text.specs.Blank.{dropBoth, isWhiteSpace, trim}
+use Rattle.text.specs.Utf8.{codePoints}
+use Rattle.texts.specs.Font.{widthOf}
 use Rattle.elements.specs.declared.label_element.LabelElement.{LabelElement}
 use Rattle.elements.specs.declared.label_position.LabelPosition.{LabelPosition}
 use Rattle.elements.specs.declared.refusal.Refusal.{Refusal}
 use Rattle.elements.specs.declared.refusal.Refusal.the-variants.{OutOfRange}
 use Rattle.elements.specs.Refusals.{numberOf}
+use Rattle.elements.specs.Spans.{In}
 use Rattle.element_frames.specs.Frame.{frameOf}
 use Rattle.parameters.specs.declared.reading.Reading.the-variants.{Refused}
 use Rattle.commands.specs.Line.{readLine}
 use Rattle.whole.specs.Division.{Division}
 use Rattle.whole.specs.Labels.{labels, labelsOf, Fails}
-use Rattle.whole.specs.Step.{State, Answer, refused, step, longest}
+use Rattle.whole.specs.Step.{State, Answer, element, refused, step, longest}
 use Rattle.whole.specs.Reach.{Final, accepted, refusal, Reach, answered}
 use Rattle.whole.specs.Trace.{listed, refusal-of}
 use Rattle.whole.specs.Normal.{each}
@@ -82,6 +87,8 @@ pub record Demand1 : Type 0 where
   pub list-keeps : (n l s : List ℕ) (k : Refusal) (p : ℕ) → Lists n l (outcomeOf s) (listed-as.Refused k p) → n ≡ l
   -- `normalise`, by its contract `Formats`
   pub normalise-keeps : (n l s : List ℕ) (k : Refusal) (p : ℕ) → Formats n l s (normalised-as.Refused k p) → n ≡ l
+  -- the data that a step answers lies within the input, so that a host which reads it stays inside what it lent
+  pub data-inside : (s : List ℕ) (st st′ : State LabelPosition) (e : LabelElement) → step epl s st ≡ element e st′ → In (length s) e
   pub numbered : (k : Refusal) → (1 ≤ numberOf k) × (numberOf k ≤ 16)
 
 -- demand 2: the command forms. A line's reader is `readLine` (crate `commands`, Line), a block's `gwSpan` (`graphics`, Block), frames are `frameOf`
@@ -90,6 +97,10 @@ pub record Demand2 : Type 0 where
   -- the reader of a line refuses 1 to 9 exactly where the line is not well formed, with 01's number; a well-formed one it refuses only as 13
   pub ill-formed : (t : List ℕ) (r : LabelPosition) → wellFormed (trim t) ≡ false → (n : Refusal) × (readLine t r ≡ Refused n) × (numberOf n ≡ faultOf (trim t))
   pub well-formed : (t : List ℕ) (r : LabelPosition) (n : Refusal) → wellFormed (trim t) ≡ true → readLine t r ≡ Refused n → n ≡ OutOfRange
+  -- "Unicode blanks (White_Space: ..)": trimming bytes takes the code points of 01's list off both ends of the decoded text
+  pub blanks : (t : List ℕ) → codePoints (trim t) ≡ dropBoth isWhiteSpace (codePoints t)
+  -- "A product below 2^53 gives the width exactly"
+  pub widths : (height across : ℕ) → 0 < height → 0 < across → height * across < 2 ^ 53 → widthOf (pos height) (pos across) ≡ ofInt binary64 (pos across)
   -- 01's starred cases
   pub starred : Holds table
 
@@ -100,4 +111,6 @@ pub record Claims : Type 0 where
   pub demand3 : (s : List ℕ) → length s ≤ longest → Demand3 s
   -- the listing program's buffer always has room: no listing has more than 16 bytes for each byte of its input, and 15 is never printed
   pub room : (s : List ℕ) (ls : List FramedLabel) → outcomeOf s ≡ listed ls → length (listingOf ls) ≤ 16 * length s
+  -- n + n/6 + 1 bytes have room for the normalised text of any string of n bytes, also of one that is refused
+  pub normalised-room : (s : List ℕ) → length (normalised s) ≤ length s + length s / 6 + 1
   pub never-15 : (s : List ℕ) → length s ≤ 65536 → printedOf s 1048576 ≡ shownOf (outcomeOf s)

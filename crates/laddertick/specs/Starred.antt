@@ -18,6 +18,7 @@ use Rattle.whole.specs.Step.{State, state, Answer, element, cleared, printed, e
 use Rattle.whole.specs.Trace.{left}
 use Rattle.grammar.specs.Epl.{origin, epl}
 use Rattle.grammar.specs.Normal.{normalised}
+use Rattle.walk.specs.Steps as steps
 
 abbrev pub EplState : Type 0
 EplState = State LabelPosition
@@ -25,9 +26,8 @@ EplState = State LabelPosition
 abbrev pub EplAnswer : Type 0
 EplAnswer = Answer LabelPosition LabelElement Unit
 
--- "the fresh state is place 0, reference 0,0, pending count 0"
 abbrev pub fresh : EplState
-fresh = state 0 origin 0
+fresh = steps.stateOf steps.fresh
 
 -- an answer, and behind it those from the state that it returned; the end and a refusal are the last
 abbrev pub onward : (EplState → List EplAnswer) → EplAnswer → List EplAnswer

@@ -8,7 +8,7 @@ use native.Mathlib.Omega.{arith}
 use lib.ListN.{length, getD, drop}
 use borrow.Author.Tests.{ne-eqb}
 use Rattle.text.specs.Fields.{same}
-use Rattle.spelling.specs.Command.{isReference, isPrint, commandOf, lineCommand}
+use Rattle.spelling.specs.Command.{isReference, isPrint, commandOf}
 use Rattle.spelling.specs.declared.command.Command.{Command}
 use Rattle.spelling.specs.declared.command.Command.the-variants.{Clear, Reference, Print, Other}
 
@@ -40,8 +40,8 @@ pub reads-print : (t : List ℕ) → commandOf (80 ∷ t) ≡ cond (isPrint (80 
 unfolding commandOf isReference isPrint
 reads-print t = refl
 
-pub reads-line : (t : List ℕ) → commandOf (76 ∷ t) ≡ lineCommand (getD (76 ∷ t) 1 0)
-unfolding commandOf isReference isPrint lineCommand
+pub reads-line : (t : List ℕ) → commandOf (76 ∷ t) ≡ commandOf (76 ∷ getD (76 ∷ t) 1 0 ∷ [])
+unfolding commandOf isReference isPrint
 reads-line t = refl
 
 same-first : (t : List ℕ) (b : ℕ) → (getD t 0 0 ≡ b → ⊥) → same t (b ∷ []) ≡ false

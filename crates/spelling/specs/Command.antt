@@ -26,7 +26,7 @@ isReference t = first 82 t && isDigit (getD t 1 0)
 unfoldable pub isPrint : List ℕ → Bool
 isPrint t = first 80 t && allDigits (drop 1 t)
 
--- the command of a line whose blanks are off, "tested in this order"
+-- the command of a line whose blanks are off, "Tested in this order"
 unfoldable pub commandOf : List ℕ → Command
 commandOf t =
     cond (same t (78 ∷ [])) Clear
@@ -39,7 +39,3 @@ commandOf t =
     (cond (first 76 t && second 83 t) Diagonal
     (cond (first 88 t) Box
     (cond (isPrint t) Print Other)))))))))
-
--- behind an `L`
-unfoldable pub lineCommand : ℕ → Command
-lineCommand b = cond (eqb b 79) (Line Black) (cond (eqb b 87) (Line White) (cond (eqb b 83) Diagonal Other))

@@ -1,7 +1,8 @@
 // Which command a line spells.
 ghost use mathlib.Core.Path.{_≡_};
+ghost use mathlib.Core.List.{[], _∷_};
 ghost use lib.ListN.{getD};
-ghost use Rattle.spelling.specs.Command.{isReference, isPrint, lineCommand, commandOf};
+ghost use Rattle.spelling.specs.Command.{isReference, isPrint, commandOf};
 use elements::line_color::LineColor;
 use parameters::params::tail;
 use text::class::all_digits;
@@ -48,9 +49,9 @@ pub fn is_epl_print_command(t: &[u8]) -> bool
     (byte_at(t, 0) == b'P') & all_digits(tail(t))
 }
 
-// Behind an `L`: `LO`, `LW`, `LS`.
+// An `L` and the byte b: `LO`, `LW`, `LS`.
 pub fn line_command(b: u8) -> Command
-    ensures { λ r. ⌜ r ≡ lineCommand b ⌝ }
+    ensures { λ r. ⌜ r ≡ commandOf (76 ∷ b ∷ []) ⌝ }
 {
     match b {
         b'O' => Command::Line(LineColor::Black),

@@ -44,7 +44,7 @@ closed q (leaves n) = out
 module _ (L : Language) (F : Type 0) (frame : List ℕ → L .E → F) where
   open Language L using (U, R, E, P, bytes, act, closing)
 
-  -- "`R` and `N` set the reference; an element that the unit yields becomes pending; `N` drops what is pending; a print line prints it"
+  -- "`R` and `N` set the reference; an element that the unit yields becomes pending; `N` drops what is pending; a print line .. prints it"
   abbrev pub effect : R → List F → U → Act R E P → Run R F P
   effect r p u (keep r′) = goes [] r′ p
   effect r p u (clear r′) = goes [] r′ []

@@ -71,13 +71,13 @@ returns-2 c =
     let left = h .before in
     let d = left .before .before .before in
     let plain =
-        simp (
-          back32 (x d .number-from .result .value) (told .struct-told .given .0 .1),
-          back32 (y d .number-from2 .result .value) (told2 .struct-told2 .given .0 .1),
-          back32 (d .size-from .result .value) (told3 .struct-told3 .given .0 .1),
-          back32 (h .size-from2 .result .value) (told4 .struct-told4 .given .0 .1),
-        )
-        at (c .line-element .ensures) in
+    simp (
+      back32 (x d .number-from .result .value) (told .struct-told .given .0 .1),
+      back32 (y d .number-from2 .result .value) (told2 .struct-told2 .given .0 .1),
+      back32 (d .size-from .result .value) (told3 .struct-told3 .given .0 .1),
+      back32 (h .size-from2 .result .value) (told4 .struct-told4 .given .0 .1),
+    )
+    at (c .line-element .ensures) in
     (simp (
       number-value _ _ _ refl (x d .number-from .ensures),
       number-value _ _ _ (at-y d) (y d .number-from2 .ensures),

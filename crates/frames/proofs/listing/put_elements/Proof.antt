@@ -12,21 +12,21 @@ use Rattle.element_frames.specs.Frame.{frameOf}
 use Rattle.element_frames.specs.Hex.{lineOf}
 use Rattle.walk.specs.declared.state.Step.{Step}
 use Rattle.walk.specs.declared.state.Step.the-variants.{Element}
-use Rattle.frames.specs.Listing.{linesOf, leadOf}
+use Rattle.frames.specs.Listing.{linesOf, frontFrames}
 use Rattle.frames.proofs.ListingLaws.{lead-none, onStep, Moved, moved-by, lead-by}
 use borrow.Author.Needs.{needs}
 use Rattle.frames.proofs.listing.put_elements.Statement.{statement}
 use Rattle.frames.proofs.listing.put_elements.Tie as tie
 
 abbrev Inv-loop : tie.InvT-loop
-Inv-loop input out₀ at to₀ here₀ out to here = Toward out to (linesOf (leadOf input here)) out₀ at (linesOf (leadOf input here₀))
+Inv-loop input out₀ at to₀ here₀ out to here = Toward out to (linesOf (frontFrames input here)) out₀ at (linesOf (frontFrames input here₀))
 
 abbrev μ-loop : tie.MeasureT-loop
 μ-loop input out₀ at to₀ here₀ out to here = 2 * (length input - here .place) + here .pending
 
 -- what is left to write, by the answer that the loop matched
 rest-is : (d : tie.After-step Inv-loop μ-loop) (q : Step) → d .step .result ≡ q
-    → linesOf (leadOf (d .before .before .before .before .args .input .now) (d .before .loop .here)) ≡ linesOf (lead epl (List ℕ) frameOf (d .before .before .before .before .args .input .now) (onStep (d .before .before .before .before .args .input .now) q))
+    → linesOf (frontFrames (d .before .before .before .before .args .input .now) (d .before .loop .here)) ≡ linesOf (lead epl (List ℕ) frameOf (d .before .before .before .before .args .input .now) (onStep (d .before .before .before .before .args .input .now) q))
 rest-is d q k = lead-by (d .before .before .before .before .args .input .now) (d .before .loop .here) (d .step .result) q (d .step .ensures) k
 
 moved : (d : tie.After-step Inv-loop μ-loop) (q : Step) → d .step .result ≡ q → Moved (d .before .before .before .before .args .input .now) (d .before .loop .here) q
@@ -53,7 +53,7 @@ put-frame-requires : tie.Need-put-frame-requires Inv-loop μ-loop
 put-frame-requires c κs =
     let d = c .before .before .before .before in
     let s = d .before .before .before .before .args .input .now in
-    room (d .before .loop .inv) (lineOf (frameOf s (c .before .before .e .given .0 .0))) (linesOf (leadOf s (c .before .before .e .given .0 .1 .0))) (d .before .before .before .before .pre) (rest-is d (Element (c .before .before .e .given .0 .0) (c .before .before .e .given .0 .1 .0)) (c .before .before .e .given .1))
+    room (d .before .loop .inv) (lineOf (frameOf s (c .before .before .e .given .0 .0))) (linesOf (frontFrames s (c .before .before .e .given .0 .1 .0))) (d .before .before .before .before .pre) (rest-is d (Element (c .before .before .e .given .0 .0) (c .before .before .e .given .0 .1 .0)) (c .before .before .e .given .1))
 
 loop-less : tie.Need-loop-less Inv-loop μ-loop
 loop-less c = omega (arith, moved (c .before .before .before .before .before .before .before) (Element (c .before .before .before .before .before .e .given .0 .0) (c .before .before .before .before .before .e .given .0 .1 .0)) (c .before .before .before .before .before .e .given .1))
@@ -61,7 +61,7 @@ loop-less c = omega (arith, moved (c .before .before .before .before .before .be
 loop-again : tie.Need-loop-again Inv-loop μ-loop
 loop-again c =
     let d = c .before .before .before .before .before .before .before in
-    put (d .before .loop .inv) (linesOf (leadOf (d .before .before .before .before .args .input .now) (c .before .before .before .before .before .e .given .0 .1 .0))) (rest-is d (Element (c .before .before .before .before .before .e .given .0 .0) (c .before .before .before .before .before .e .given .0 .1 .0)) (c .before .before .before .before .before .e .given .1)) (c .before .before .put-frame .ensures)
+    put (d .before .loop .inv) (linesOf (frontFrames (d .before .before .before .before .args .input .now) (c .before .before .before .before .before .e .given .0 .1 .0))) (rest-is d (Element (c .before .before .before .before .before .e .given .0 .0) (c .before .before .before .before .before .e .given .0 .1 .0)) (c .before .before .before .before .before .e .given .1)) (c .before .before .put-frame .ensures)
 
 pub put-elements-spec : {M : Type 1} → statement M
 put-elements-spec =

@@ -2,20 +2,20 @@
 use native.Mathlib.Omega.{arith}
 use Rattle.element_frames.specs.Frame.{countFrame}
 use Rattle.element_frames.specs.Hex.{lineOf}
-use Rattle.frames.specs.Listing.{linesOf, leadOf}
+use Rattle.frames.specs.Listing.{linesOf, frontFrames}
 use Rattle.frames.proofs.ListingLaws.{length-count, length-label, put-both}
 use borrow.Author.Needs.{needs}
 use Rattle.frames.proofs.listing.put_label.Statement.{statement}
 use Rattle.frames.proofs.listing.put_label.Tie as tie
 
 put-count-requires : tie.Need-put-count-requires
-put-count-requires c κs = let a = c .before .before .before .args in omega (arith, length-label (a .n) tt (leadOf (a .input .now) (a .first)))
+put-count-requires c κs = let a = c .before .before .before .args in omega (arith, length-label (a .n) tt (frontFrames (a .input .now) (a .first)))
 
 put-elements-requires : tie.Need-put-elements-requires
 put-elements-requires c κs =
     let k = c .before .before .before in
     let a = k .before .before .before .before .args in
-    omega (arith, length-label (a .n) tt (leadOf (a .input .now) (a .first)), k .put-count .ensures .next, k .put-count .ensures .wrote .long, length-count (a .n))
+    omega (arith, length-label (a .n) tt (frontFrames (a .input .now) (a .first)), k .put-count .ensures .next, k .put-count .ensures .wrote .long, length-count (a .n))
 
 same-length : tie.Need-same-length
 same-length c = search needs
@@ -25,7 +25,7 @@ returns c =
     let w = c .before .before in
     let k = w .before .before .before .before in
     let a = k .before .before .before .before .args in
-    put-both (lineOf (countFrame (a .n))) (linesOf (leadOf (a .input .now) (a .first))) (k .put-count .ensures) (w .put-elements .ensures)
+    put-both (lineOf (countFrame (a .n))) (linesOf (frontFrames (a .input .now) (a .first))) (k .put-count .ensures) (w .put-elements .ensures)
 
 pub put-label-spec : {M : Type 1} → statement M
 put-label-spec = tie.close (tie.spec put-count-requires put-elements-requires same-length returns)

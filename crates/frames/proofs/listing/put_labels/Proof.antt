@@ -13,7 +13,7 @@ use Rattle.walk.specs.Steps.{traceOf}
 use Rattle.walk.specs.declared.state.WalkState.{WalkState}
 use Rattle.walk.specs.declared.state.Step.{Step}
 use Rattle.walk.specs.declared.state.Step.the-variants.{Element, Clear, Print, End, Refused}
-use Rattle.frames.specs.Listing.{listingOf, labelText, leadOf, textFrom, allText}
+use Rattle.frames.specs.Listing.{listingOf, labelText, frontFrames, textFrom, allText}
 use Rattle.frames.proofs.ListingLaws.{onStep, Moved, moved-by, text-by, after-by}
 use borrow.Author.Needs.{needs}
 use Rattle.frames.proofs.listing.put_labels.Statement.{statement}
@@ -27,7 +27,7 @@ abbrev μ-loop : tie.MeasureT-loop
 
 -- what is left to write, by the answer that the loop matched
 rest-is : (d : tie.After-step Inv-loop μ-loop) (q : Step) → d .step .result ≡ q
-    → textFrom (d .before .before .before .before .before .before .args .input .now) (d .before .loop .first) ≡ listingOf (labelsIn epl (List ℕ) frameOf (d .before .before .before .before .before .before .args .input .now) (leadOf (d .before .before .before .before .before .before .args .input .now) (d .before .loop .first)) (after (onStep (d .before .before .before .before .before .before .args .input .now) q)))
+    → textFrom (d .before .before .before .before .before .before .args .input .now) (d .before .loop .first) ≡ listingOf (labelsIn epl (List ℕ) frameOf (d .before .before .before .before .before .before .args .input .now) (frontFrames (d .before .before .before .before .before .before .args .input .now) (d .before .loop .first)) (after (onStep (d .before .before .before .before .before .before .args .input .now) q)))
 rest-is d q k =
     let l = d .before .loop in
     text-by (d .before .before .before .before .before .before .args .input .now) (l .here) (d .step .result) q (d .step .ensures) k (l .first) (l .inv .1)

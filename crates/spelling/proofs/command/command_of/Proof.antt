@@ -2,10 +2,10 @@
 -- Assumes nothing.
 use mathlib.Core.Path.{refl, sym, ap, _∙_}
 use mathlib.Core.Bool.{Bool, cond}
-use mathlib.Core.List.{List}
+use mathlib.Core.List.{List, [], _∷_}
 use Prim.Native.Nat.{ℕ}
 use lib.ListN.{getD, drop}
-use Rattle.spelling.specs.Command.{isReference, isPrint, commandOf, lineCommand}
+use Rattle.spelling.specs.Command.{isReference, isPrint, commandOf}
 use Rattle.spelling.specs.declared.command.DataCommand.the-variants.{Text, Barcode, Barcode2d}
 use Rattle.spelling.specs.declared.command.Command.the-variants.{Clear, Reference, Data, Box, Print, Other}
 use Rattle.spelling.proofs.CommandLaws.{front, spelled, reads-clear, reads-no-clear, reads-reference, reads-print, reads-line, reads-other}
@@ -85,7 +85,7 @@ returns-8 c =
     let m = c .before .before in
     let b = m .before .byte-at in
     let t = m .before .before .before .args .t .now in
-    spelled t (b .result) 75 (c .line-command .result) (b .ensures) (m .match .keys6) (reads-line (drop 1 t) ∙ sym (c .line-command .ensures ∙ ap lineCommand (c .before .byte-at2 .ensures ∙ ap (λ (s : List ℕ). getD s 1 0) (front t 75 (sym (b .ensures) ∙ m .match .keys6)))))
+    spelled t (b .result) 75 (c .line-command .result) (b .ensures) (m .match .keys6) (reads-line (drop 1 t) ∙ sym (c .line-command .ensures ∙ ap (λ (x : ℕ). commandOf (76 ∷ x ∷ [])) (c .before .byte-at2 .ensures ∙ ap (λ (s : List ℕ). getD s 1 0) (front t 75 (sym (b .ensures) ∙ m .match .keys6)))))
 
 returns-9 : tie.Need-returns-9
 unfolding commandOf isReference isPrint

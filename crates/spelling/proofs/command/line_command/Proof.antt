@@ -1,24 +1,24 @@
 -- `spelling::command::line_command` meets its contract, arm by arm.
 -- Assumes nothing.
 use borrow.Author.Tests.{ne-eqb}
-use Rattle.spelling.specs.Command.{lineCommand}
+use Rattle.spelling.specs.Command.{isReference, isPrint, commandOf}
 use Rattle.spelling.proofs.command.line_command.Statement.{statement}
 use Rattle.spelling.proofs.command.line_command.Tie as tie
 
 returns : tie.Need-returns
-unfolding lineCommand
+unfolding commandOf isReference isPrint
 returns c = rw (c .match .keys1)
 
 returns-2 : tie.Need-returns-2
-unfolding lineCommand
+unfolding commandOf isReference isPrint
 returns-2 c = rw (c .match .keys2)
 
 returns-3 : tie.Need-returns-3
-unfolding lineCommand
+unfolding commandOf isReference isPrint
 returns-3 c = rw (c .match .keys3)
 
 returns-4 : tie.Need-returns-4
-unfolding lineCommand
+unfolding commandOf isReference isPrint
 returns-4 c =
     let b = c .before .args .b in
     simp (ne-eqb b 79 (c .match .rest .0 .0 .1), ne-eqb b 87 (c .match .rest .0 .1), ne-eqb b 83 (c .match .rest .1))
