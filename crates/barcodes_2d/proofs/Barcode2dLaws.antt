@@ -13,7 +13,7 @@ use borrow.Author.Tests.{ltb-true, ltb-false, lt-ltb, le-leb, lt-leb, eq-eqb, ne
 use Rattle.text.proofs.BoolLaws.{test}
 use Rattle.text.proofs.IntLaws.{mag-neg-pos}
 use Rattle.text.specs.Int.{eqZ, minZ}
-use Rattle.text.specs.Number.{numberOf}
+use Rattle.text.specs.Number.{numberSpelled}
 use Rattle.text.specs.declared.number.Number.{Number}
 use Rattle.text.specs.declared.number.Number.the-variants as number
 use Rattle.barcodes_2d.specs.Barcode2d.{letterOf, symbologyOf, between, aztecSize, isMode, pdf417ModuleWidth}
@@ -83,7 +83,7 @@ clamped-or-le d lo hi number.Other h = h
 
 pub width-le : (s : List ℕ) → mag (pdf417ModuleWidth s) ≤ 9
 unfolding pdf417ModuleWidth lastClamped
-width-le s = clamped-or-le 6 2 9 (numberOf (lastOf wanted.Number 120 [] (optionsOf s))) (omega arith)
+width-le s = clamped-or-le 6 2 9 (numberSpelled (lastOf wanted.Number 120 [] (optionsOf s))) (omega arith)
 
 pub four-fits : (z : ℤ) → mag z ≤ 9 → mag (pos 4 *ℤ z) < 2147483648
 four-fits (pos n) h = omega arith

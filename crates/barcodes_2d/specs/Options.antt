@@ -11,7 +11,7 @@ use lib.ListN.{length, take, drop}
 use Rattle.text.specs.Blank.{front}
 use Rattle.text.specs.Class.{isDigit, isLetter}
 use Rattle.text.specs.Int.{minZ, maxZ}
-use Rattle.text.specs.Number.{numberOf, numberOr}
+use Rattle.text.specs.Number.{numberSpelled, numberOr}
 use Rattle.text.specs.declared.number.Number.{Number}
 use Rattle.text.specs.declared.number.Number.the-variants as number
 use Rattle.barcodes_2d.specs.declared.options.Wanted.{Wanted}
@@ -60,7 +60,7 @@ isValue number.Other = false
 
 -- digits within 32 bits
 abbrev pub isNumber : List ℕ → Bool
-isNumber v = isValue (numberOf v)
+isNumber v = isValue (numberSpelled v)
 
 -- L, M, Q or H first
 abbrev pub isLevel : List ℕ → Bool
@@ -84,11 +84,11 @@ lastOf w p v (o ∷ os) = lastOf w p (cond (eqb (o .letter) p && accepted w (o .
 
 -- the last one wins: its number, 0 where it is none
 unfoldable pub lastCount : ℕ → List Setting → ℤ
-lastCount p os = numberOr (pos 0) (numberOf (lastOf wanted.Any p [] os))
+lastCount p os = numberOr (pos 0) (numberSpelled (lastOf wanted.Any p [] os))
 
 -- the last that is a number wins
 unfoldable pub lastNumber : ℕ → ℤ → List Setting → ℤ
-lastNumber p d os = numberOr d (numberOf (lastOf wanted.Number p [] os))
+lastNumber p d os = numberOr d (numberSpelled (lastOf wanted.Number p [] os))
 
 -- v, or the nearest of lo and hi
 abbrev pub clamped : ℤ → ℤ → ℤ → ℤ
@@ -100,4 +100,4 @@ clampedOr d lo hi number.Other = d
 
 -- the last that is a number wins, brought within lo to hi; the default as it is
 unfoldable pub lastClamped : ℕ → ℤ → ℤ → ℤ → List Setting → ℤ
-lastClamped p d lo hi os = clampedOr d lo hi (numberOf (lastOf wanted.Number p [] os))
+lastClamped p d lo hi os = clampedOr d lo hi (numberSpelled (lastOf wanted.Number p [] os))

@@ -5,7 +5,7 @@ use mathlib.Core.Bool.{true, false}
 use mathlib.Core.List.{[], _∷_}
 use lib.IntN.{pos, negsuc}
 use Rattle.text.specs.Fields.{before, after, fields}
-use Rattle.text.specs.Number.{numberOf}
+use Rattle.text.specs.Number.{numberSpelled}
 use Rattle.elements.specs.declared.label_element.LabelElement.the-variants.{GraphicBox, DiagonalLine}
 use Rattle.elements.specs.declared.label_position.LabelPosition.{LabelPosition}
 use Rattle.elements.specs.declared.line_color.LineColor.the-variants.{Black}
@@ -22,33 +22,33 @@ origin = record { x = pos 0; y = pos 0 }
 empty-height :
     lineReading (0x31 ∷ 0x2c ∷ 0x32 ∷ 0x2c ∷ 0x33 ∷ 0x2c ∷ []) Black origin ≡
     Element (GraphicBox (record { position = record { x = pos 1; y = pos 2 }; width = pos 3; height = pos 1; «border_thickness» = pos 1; «line_color» = Black }))
-unfolding lineReading lineFields lineElement placed pointAt sizeAt numberAt numberOf before after fields
+unfolding lineReading lineFields lineElement placed pointAt sizeAt numberAt numberSpelled before after fields
 empty-height = refl
 
 -- `5,5,1,5,5` of `LS`: both differences are zero, direction 1
 point :
     diagonalReading (0x35 ∷ 0x2c ∷ 0x35 ∷ 0x2c ∷ 0x31 ∷ 0x2c ∷ 0x35 ∷ 0x2c ∷ 0x35 ∷ []) origin ≡
     Element (DiagonalLine (record { position = record { x = pos 5; y = pos 5 }; width = pos 0; height = pos 0; «border_thickness» = pos 1; «top_to_bottom» = true }))
-unfolding diagonalReading cornersAt drawnAt extentOf placed pointAt sizeAt numberAt numberOf before after fields
+unfolding diagonalReading cornersAt drawnAt extentOf placed pointAt sizeAt numberAt numberSpelled before after fields
 point = refl
 
 -- `0,0,1,9,0` of `LS`: one is positive and one zero, direction 0
 flat :
     diagonalReading (0x30 ∷ 0x2c ∷ 0x30 ∷ 0x2c ∷ 0x31 ∷ 0x2c ∷ 0x39 ∷ 0x2c ∷ 0x30 ∷ []) origin ≡
     Element (DiagonalLine (record { position = origin; width = pos 9; height = pos 0; «border_thickness» = pos 1; «top_to_bottom» = false }))
-unfolding diagonalReading cornersAt drawnAt extentOf placed pointAt sizeAt numberAt numberOf before after fields
+unfolding diagonalReading cornersAt drawnAt extentOf placed pointAt sizeAt numberAt numberSpelled before after fields
 flat = refl
 
 -- `2147483647,0,1,-1,0` of `X`: the width 2147483648 has no 32 bits
 too-wide :
     boxReading (0x32 ∷ 0x31 ∷ 0x34 ∷ 0x37 ∷ 0x34 ∷ 0x38 ∷ 0x33 ∷ 0x36 ∷ 0x34 ∷ 0x37 ∷ 0x2c ∷ 0x30 ∷ 0x2c ∷ 0x31 ∷ 0x2c ∷ 0x2d ∷ 0x31 ∷ 0x2c ∷ 0x30 ∷ []) origin ≡
     Refused OutOfRange
-unfolding boxReading cornersAt drawnAt extentOf placed pointAt sizeAt numberAt numberOf before after fields
+unfolding boxReading cornersAt drawnAt extentOf placed pointAt sizeAt numberAt numberSpelled before after fields
 too-wide = refl
 
 -- `2147483646,0,1,-1,0` of `X`: the widest box
 widest :
     boxReading (0x32 ∷ 0x31 ∷ 0x34 ∷ 0x37 ∷ 0x34 ∷ 0x38 ∷ 0x33 ∷ 0x36 ∷ 0x34 ∷ 0x36 ∷ 0x2c ∷ 0x30 ∷ 0x2c ∷ 0x31 ∷ 0x2c ∷ 0x2d ∷ 0x31 ∷ 0x2c ∷ 0x30 ∷ []) origin ≡
     Element (GraphicBox (record { position = record { x = negsuc 0; y = pos 0 }; width = pos 2147483647; height = pos 0; «border_thickness» = pos 1; «line_color» = Black }))
-unfolding boxReading cornersAt drawnAt extentOf placed pointAt sizeAt numberAt numberOf before after fields
+unfolding boxReading cornersAt drawnAt extentOf placed pointAt sizeAt numberAt numberSpelled before after fields
 widest = refl

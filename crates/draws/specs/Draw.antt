@@ -26,7 +26,7 @@ use Rattle.parameters.specs.declared.position.Placed.the-variants as placing
 use Rattle.parameters.specs.declared.reading.Reading.{Reading}
 use Rattle.parameters.specs.declared.reading.Reading.the-variants as reading
 use Rattle.parameters.specs.Params.{sizeAt, pointAt}
-use Rattle.parameters.specs.Position.{fitting, placed, yields}
+use Rattle.parameters.specs.Position.{ifFits, placed, yields}
 
 -- "`LO` (black) and `LW` (white): x, y, width, height; thickness is the smaller of the two"
 unfoldable pub lineFields : List ℕ → LineFields
@@ -58,8 +58,8 @@ cornersRead s = record { corners = cornersAt s; seen = ltb 0 (length (after 44 (
 -- along one axis: "the position is the smaller of each pair, width and height are the absolute differences"; both must fit 32 bits
 unfoldable pub extentOf : ℤ → ℤ → Measured
 extentOf a b =
-    fitting (checked (b -ℤ a)) measured.Outside λ d.
-    fitting (checked (absZ d)) measured.Outside λ size.
+    ifFits (checked (b -ℤ a)) measured.Outside λ d.
+    ifFits (checked (absZ d)) measured.Outside λ size.
     measured.Of (record { low = minZ a b; size = size; rises = ltZ (pos 0) d; falls = ltZ d (pos 0) })
 
 -- "both positive, both negative or both zero"

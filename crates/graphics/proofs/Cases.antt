@@ -5,7 +5,7 @@ use mathlib.Core.List.{List, [], _∷_, _++_}
 use Prim.Native.Nat.{ℕ}
 use lib.IntN.{ℤ, pos}
 use lib.ListN.{take, drop}
-use Rattle.text.specs.Number.{numberOf}
+use Rattle.text.specs.Number.{numberSpelled}
 use Rattle.elements.specs.declared.refusal.Refusal.the-variants as refusal
 use Rattle.graphics.specs.declared.gw_span.Graphic.{Graphic}
 use Rattle.graphics.specs.declared.gw_span.Graphic.the-variants as graphic
@@ -55,7 +55,7 @@ record Cases : Type 0 where
   line : gwSpan (gw00 (49 ∷ 44 ∷ 49 ∷ 10 ∷ 44 ∷ 65 ∷ [])) ≡ graphic.Refused refusal.GraphicFields
 
 cases : Cases
-unfolding opensGw closes afterHeaderField headerNumber fourClosed payloadOf gwNumbers measured gwSpan numberOf
+unfolding opensGw closes afterHeaderField headerNumber fourClosed payloadOf gwNumbers measured gwSpan numberSpelled
 cases =
     record {
       empty = refl;

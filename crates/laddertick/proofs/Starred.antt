@@ -3,7 +3,7 @@
 use mathlib.Core.Path.{refl}
 use lib.Dec.{lit<}
 use Rattle.text.specs.Fields.{before, after, beforeLast, fields, withoutTrailingCommas}
-use Rattle.text.specs.Number.{numberOf}
+use Rattle.text.specs.Number.{numberSpelled}
 use Rattle.parameters.specs.Params.{numberAt, sizeAt, pointAt, typeAt, exactly}
 use Rattle.parameters.specs.Position.{placed}
 use Rattle.parameters.specs.Rotation.{rotationOf}
@@ -23,6 +23,6 @@ use Rattle.laddertick.specs.Starred.{Holds, table}
 
 -- a proof for each row, in the table's order
 pub starred : Holds table
-unfolding before after beforeLast fields withoutTrailingCommas numberOf numberAt sizeAt pointAt typeAt exactly placed rotationOf isReference isPrint commandOf referenceOf cellOf fontOf scaleAt textFields textElement textReading lineFields lineElement lineReading cornersAt extentOf drawnAt diagonalReading boxReading paramsOf quotedReading readLine opensGw closes afterHeaderField headerNumber fourClosed payloadOf gwNumbers measured gwSpan handing answer step wellFormed faultOf first chunk normalised
+unfolding before after beforeLast fields withoutTrailingCommas numberSpelled numberAt sizeAt pointAt typeAt exactly placed rotationOf isReference isPrint commandOf referenceOf cellOf fontOf scaleAt textFields textElement textReading lineFields lineElement lineReading cornersAt extentOf drawnAt diagonalReading boxReading paramsOf quotedReading readLine opensGw closes afterHeaderField headerNumber fourClosed payloadOf gwNumbers measured gwSpan handing answer step wellFormed faultOf first chunk normalised
 starred =
     (refl, (refl, (refl, (refl, (refl, (refl, (refl, (refl, (refl, (rw (width-exact 12 16 (lit< tt) (lit< tt) (lit< tt)), (refl, (refl, (refl, (refl, (refl, (refl, (refl, (refl, (refl, (refl, (refl, (refl, (refl, (refl, tt))))))))))))))))))))))))

@@ -13,7 +13,7 @@ use borrow.Author.Tests.{eqb-true, leb-true, leb-false, ltb-true, ltb-false}
 use Rattle.text.specs.Class.{isDigit}
 use Rattle.text.specs.Fields.{indexOf, before, after}
 use Rattle.text.specs.Int.{maxZ}
-use Rattle.text.specs.Number.{numberOf, fieldOr}
+use Rattle.text.specs.Number.{numberSpelled, fieldOr}
 use Rattle.text.proofs.BoolLaws.{test, and-both, within-high}
 use Rattle.text.proofs.FieldsLaws.{index-le}
 use Rattle.text.proofs.PlainLaws.{field-digits, index-digit, index-end, index-here, value-digit, value-end}
@@ -77,7 +77,7 @@ module _ (s : List ℕ) (at n : ℕ) (h : at ≤ length s) (e : n ≡ at + index
 
 -- a place past the end
 pub past-end : (d : ℤ) (s : List ℕ) (at : ℕ) → length s < at → record { value = d; next = length s } ≡ numberFrom d s at
-unfolding numberFrom numberAt before after numberOf
+unfolding numberFrom numberAt before after numberSpelled
 past-end d s at h = rw (drop-of-length-le s {i = at} (omega arith)) (ap (λ (n : ℕ). record { value = d; next = n }) (omega arith))
 
 -- a field's number, whose comma or end is n bytes off

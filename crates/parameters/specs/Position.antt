@@ -12,15 +12,15 @@ use Rattle.parameters.specs.declared.reading.Reading.{Reading}
 use Rattle.parameters.specs.declared.reading.Reading.the-variants as reading
 
 -- go on with a number that has 32 bits, or give the other answer
-abbrev pub fitting : {A : Type 0} → Checked → A → (ℤ → A) → A
-fitting (Fits z) other go = go z
-fitting Outside other go = other
+abbrev pub ifFits : {A : Type 0} → Checked → A → (ℤ → A) → A
+ifFits (Fits z) other go = go z
+ifFits Outside other go = other
 
 -- x, y with the reference added, where both sums have 32 bits
 unfoldable pub placed : ℤ → ℤ → LabelPosition → Placed
 placed x y r =
-    fitting (checked (x +ℤ r .x)) placing.Outside λ across.
-    fitting (checked (y +ℤ r .y)) placing.Outside λ down.
+    ifFits (checked (x +ℤ r .x)) placing.Outside λ across.
+    ifFits (checked (y +ℤ r .y)) placing.Outside λ down.
     placing.At (record { x = across; y = down })
 
 -- an element at its position, or 13

@@ -15,7 +15,7 @@ use lib.IntN.{pos, negsuc, negℤ, _-ℤ_}
 use lib.Signed.{mag}
 use borrow.Author.Tests.{le-leb, lt-leb, lt-ltb, le-ltb, leb-true, leb-false}
 use Rattle.text.specs.Class.{isDigit}
-use Rattle.text.specs.Number.{valueFrom, digitsOf, capped, ranged, signed, numberOf}
+use Rattle.text.specs.Number.{valueFrom, digitsOf, capped, ranged, signed, numberSpelled}
 use Rattle.text.specs.declared.number.Number.the-variants.{Value, Other}
 use Rattle.text.specs.declared.number.Magnitude.the-variants.{Upto, Bad}
 use Rattle.text.proofs.IntLaws.{mag-neg-pos}
@@ -94,12 +94,12 @@ bad (some w) neg p = bad-by (leb w 2147483648) neg w refl p
 
 -- a text's number by its first byte
 
-pub number-none : (s : List ℕ) → length s ≡ 0 → numberOf s ≡ Other
-unfolding numberOf
+pub number-none : (s : List ℕ) → length s ≡ 0 → numberSpelled s ≡ Other
+unfolding numberSpelled
 number-none [] h = refl
 number-none (x ∷ xs) h = absurd (omega arith)
 
-pub number-some : (s : List ℕ) → 0 < length s → numberOf s ≡ cond (eqb (getD s 0 0) 45) (signed true (digitsOf (drop 1 s))) (cond (eqb (getD s 0 0) 43) (signed false (digitsOf (drop 1 s))) (signed false (digitsOf s)))
-unfolding numberOf
+pub number-some : (s : List ℕ) → 0 < length s → numberSpelled s ≡ cond (eqb (getD s 0 0) 45) (signed true (digitsOf (drop 1 s))) (cond (eqb (getD s 0 0) 43) (signed false (digitsOf (drop 1 s))) (signed false (digitsOf s)))
+unfolding numberSpelled
 number-some [] h = absurd (not-suc-le-zero h)
 number-some (x ∷ xs) h = refl

@@ -15,7 +15,7 @@ use borrow.Author.Tests.{le-leb, lt-leb, lt-ltb, eq-eqb, ne-eqb}
 use Rattle.text.specs.Blank.{isBlank1, trimEnd, trim}
 use Rattle.text.specs.Class.{isDigit, allDigits}
 use Rattle.text.specs.Fields.{indexOf, before}
-use Rattle.text.specs.Number.{valueFrom, numberOf, numberOr, fieldOr}
+use Rattle.text.specs.Number.{valueFrom, numberSpelled, numberOr, fieldOr}
 use Rattle.text.proofs.BoolLaws.{and-both, test, within-low, within-high}
 use Rattle.text.proofs.TrimLaws.{trim-start-other, trim-end-other}
 
@@ -51,12 +51,12 @@ trim-digits (x ∷ s) h =
 
 -- the field's number is their value
 pub field-digits : (d : ℤ) (f : List ℕ) (v : ℕ) → 0 < length f → valueFrom 0 f ≡ some v → v < 2147483648 → fieldOr d f ≡ pos v
-unfolding numberOf
+unfolding numberSpelled
 field-digits d [] v l h b = absurd (not-suc-le-zero l)
 field-digits d (x ∷ s) v l h b =
     let a = value-digits (x ∷ s) 0 v h in
     let k = within-low 48 57 x (and-both (isDigit x) (allDigits s) a .0) in
-    ap (λ (t : List ℕ). numberOr d (numberOf t)) (trim-digits (x ∷ s) a)
+    ap (λ (t : List ℕ). numberOr d (numberSpelled t)) (trim-digits (x ∷ s) a)
     ∙ simp (ne-eqb x 45 (λ e. omega arith), ne-eqb x 43 (λ e. omega arith), h, lt-ltb v 2147483648 b)
 
 -- one turn of the loop over the digits of a field, at place i; v is the value of those before it

@@ -32,13 +32,13 @@ signed neg none = Other
 signed neg (some v) = ranged (cond neg (negℤ (pos v)) (pos v))
 
 -- a text's number: `-` or `+` or no sign, and digits; no blanks
-unfoldable pub numberOf : List ℕ → Number
-numberOf [] = Other
-numberOf (b ∷ s) = cond (eqb b 45) (signed true (digitsOf s)) (cond (eqb b 43) (signed false (digitsOf s)) (signed false (digitsOf (b ∷ s))))
+unfoldable pub numberSpelled : List ℕ → Number
+numberSpelled [] = Other
+numberSpelled (b ∷ s) = cond (eqb b 45) (signed true (digitsOf s)) (cond (eqb b 43) (signed false (digitsOf s)) (signed false (digitsOf (b ∷ s))))
 
 -- a field's number: its Unicode blanks off first
 abbrev pub fieldNumber : List ℕ → Number
-fieldNumber f = numberOf (trim f)
+fieldNumber f = numberSpelled (trim f)
 
 -- the value, or the default
 abbrev pub numberOr : ℤ → Number → ℤ

@@ -3,7 +3,7 @@ ghost use mathlib.Core.Path.{_≡_};
 ghost use mathlib.Core.Option.{some};
 ghost use Prim.Native.Nat.{_≤_};
 ghost use lib.IntN.{pos, negℤ};
-ghost use Rattle.text.specs.Number.{digitsOf, capped, signed, numberOf, fieldNumber, numberOr, fieldOr};
+ghost use Rattle.text.specs.Number.{digitsOf, capped, signed, numberSpelled, fieldNumber, numberOr, fieldOr};
 use crate::blank::trim;
 
 pub enum Number {
@@ -76,7 +76,7 @@ fn after_sign(neg: bool, s: &[u8]) -> Number
 
 // The number that s spells, with no blanks.
 pub fn parse(s: &[u8]) -> Number
-    ensures { λ r. ⌜ r ≡ numberOf (now (s .entry)) ⌝ }
+    ensures { λ r. ⌜ r ≡ numberSpelled (now (s .entry)) ⌝ }
 {
     if s.len() == 0 {
         return Number::Other;

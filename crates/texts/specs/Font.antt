@@ -6,7 +6,7 @@ use Rattle.text.specs.Int.{checked, eqZ}
 use Rattle.texts.specs.declared.fonts.Cell.{Cell}
 use Rattle.texts.specs.declared.fonts.Scaled.{Scaled}
 use Rattle.texts.specs.declared.fonts.Scaled.the-variants.{Font, Outside}
-use Rattle.parameters.specs.Position.{fitting}
+use Rattle.parameters.specs.Position.{ifFits}
 use Rattle.parameters.specs.Rotation.{rotationOf}
 
 -- "fonts 1 to 5 are 8×12, 10×16, 12×20, 14×24, 32×48 (width × height); any other is 8×12"
@@ -26,8 +26,8 @@ widthOf h a = div binary64 (mul binary64 (ofInt binary64 h) (ofInt binary64 a)) 
 -- "Products of whole numbers must fit 32 bits"
 unfoldable pub fontOf : ℤ → ℤ → ℤ → ℤ → Scaled
 fontOf n h v r =
-    fitting (checked (cellOf n .height *ℤ v)) Outside λ height.
+    ifFits (checked (cellOf n .height *ℤ v)) Outside λ height.
     cond (eqZ h v)
     (Font (record { height = ofInt binary64 height; width = ofInt binary64 height; rotation = rotationOf r }))
-    (fitting (checked (h *ℤ cellOf n .width)) Outside λ across.
+    (ifFits (checked (h *ℤ cellOf n .width)) Outside λ across.
     Font (record { height = ofInt binary64 height; width = widthOf height across; rotation = rotationOf r }))

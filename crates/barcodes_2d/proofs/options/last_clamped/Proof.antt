@@ -5,14 +5,14 @@ use mathlib.Core.List.{[]}
 use mir.Facts.{toZ-ofZ}
 use borrow.Author.Needs.{needs}
 use Rattle.text.proofs.IntLaws.{back32}
-use Rattle.text.specs.Number.{numberOf}
+use Rattle.text.specs.Number.{numberSpelled}
 use Rattle.barcodes_2d.specs.Options.{lastOf, optionsOf, clampedOr, lastClamped}
 use Rattle.barcodes_2d.specs.declared.options.Wanted.the-variants as wanted
 use Rattle.barcodes_2d.proofs.options.last_clamped.Statement.{statement}
 use Rattle.barcodes_2d.proofs.options.last_clamped.Tie as tie
 
-read : (d : tie.After-parse) → d .parse .result ≡ numberOf (lastOf wanted.Number (d .before .before .before .args .p) [] (optionsOf (d .before .before .before .args .s .now)))
-read d = d .parse .ensures ∙ ap numberOf (d .before .last .ensures)
+read : (d : tie.After-parse) → d .parse .result ≡ numberSpelled (lastOf wanted.Number (d .before .before .before .args .p) [] (optionsOf (d .before .before .before .args .s .now)))
+read d = d .parse .ensures ∙ ap numberSpelled (d .before .last .ensures)
 
 last-requires : tie.Need-last-requires
 last-requires c κs = search needs

@@ -4,7 +4,7 @@ use mathlib.Core.Path.{ap, _∙_}
 use lib.IntN.{pos}
 use borrow.Author.Needs.{needs}
 use Rattle.text.proofs.IntLaws.{back32}
-use Rattle.text.specs.Number.{numberOf, numberOr}
+use Rattle.text.specs.Number.{numberSpelled, numberOr}
 use Rattle.barcodes_2d.specs.Options.{lastCount}
 use Rattle.barcodes_2d.proofs.options.last_count.Statement.{statement}
 use Rattle.barcodes_2d.proofs.options.last_count.Tie as tie
@@ -22,7 +22,7 @@ returns : tie.Need-returns
 unfolding lastCount
 returns c =
     back32 (c .or-default .result) (c .or-default .ok) ∙ c .or-default .ensures
-    ∙ ap (numberOr (pos 0)) (c .before .parse .ensures ∙ ap numberOf (c .before .before .last .ensures))
+    ∙ ap (numberOr (pos 0)) (c .before .parse .ensures ∙ ap numberSpelled (c .before .before .last .ensures))
 
 pub last-count-spec : {M : Type 1} → statement M
 last-count-spec = tie.close (tie.spec last-requires parse-requires or-default-requires returns)

@@ -4,7 +4,7 @@ use mathlib.Core.Path.{ap, _∙_}
 use mir.Facts.{toZ-ofZ}
 use borrow.Author.Needs.{needs}
 use Rattle.text.proofs.IntLaws.{back32}
-use Rattle.text.specs.Number.{numberOf, numberOr}
+use Rattle.text.specs.Number.{numberSpelled, numberOr}
 use Rattle.barcodes_2d.specs.Options.{lastNumber}
 use Rattle.barcodes_2d.proofs.options.last_number.Statement.{statement}
 use Rattle.barcodes_2d.proofs.options.last_number.Tie as tie
@@ -23,7 +23,7 @@ unfolding lastNumber
 returns c =
     let s = c .before .before .before .before in
     back32 (c .or-default .result) (c .or-default .ok) ∙ (simp (toZ-ofZ (s .fits .default)) at (c .or-default .ensures))
-    ∙ ap (numberOr (s .args .default)) (c .before .parse .ensures ∙ ap numberOf (c .before .before .last .ensures))
+    ∙ ap (numberOr (s .args .default)) (c .before .parse .ensures ∙ ap numberSpelled (c .before .before .last .ensures))
 
 pub last-number-spec : {M : Type 1} → statement M
 last-number-spec = tie.close (tie.spec last-requires parse-requires or-default-requires returns)

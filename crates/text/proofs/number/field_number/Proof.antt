@@ -2,7 +2,7 @@
 -- Assumes nothing.
 use mathlib.Core.Path.{ap, _∙_}
 use borrow.Author.Needs.{needs}
-use Rattle.text.specs.Number.{numberOf}
+use Rattle.text.specs.Number.{numberSpelled}
 use Rattle.text.proofs.number.field_number.Statement.{statement}
 use Rattle.text.proofs.number.field_number.Tie as tie
 
@@ -13,7 +13,7 @@ parse-requires : tie.Need-parse-requires
 parse-requires c κs = search needs
 
 returns : tie.Need-returns
-returns c = c .parse .ensures ∙ ap numberOf (c .before .trim .ensures)
+returns c = c .parse .ensures ∙ ap numberSpelled (c .before .trim .ensures)
 
 pub field-number-spec : {M : Type 1} → statement M
 field-number-spec = tie.close (tie.spec trim-requires parse-requires returns)
