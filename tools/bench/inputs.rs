@@ -59,11 +59,11 @@ fn bar_codes(size: usize) -> Vec<u8> {
     })
 }
 
-/// A drawn profile of 480 by 400 dots, white but for its line, between a few lines.
+/// A drawn profile of 480 by 100 dots, white but for its line, between a few lines.
 fn graphics(size: usize) -> Vec<u8> {
     filled(size, |i| {
-        let mut label = b"N\nR8,8\nGW10,20,60,400,".to_vec();
-        label.extend((0..24_000).map(|k| if k % 60 == (k / 60 * 7 + i) % 60 { 0x3c } else { 0 }));
+        let mut label = b"N\nR8,8\nGW10,20,60,100,".to_vec();
+        label.extend((0..6_000).map(|k| if k % 60 == (k / 60 * 7 + i) % 60 { 0x3c } else { 0 }));
         label.extend(format!("\nA0,130,0,2,1,1,N,\"profile {i}\"\nP1\n").bytes());
         label
     })
