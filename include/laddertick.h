@@ -115,7 +115,7 @@ typedef struct laddertick_answer {
     double ratio;      /* 2 of 5, Code 39: wide bar to narrow bar, at least 2 */
     size_t place;      /* refusal: its place */
     size_t count;      /* print: how many elements */
-    size_t data_start; /* text, graphic, bar codes: where the data stands in the input, and its bytes there. A graphic's are its dots, row by row, as the */
+    size_t data_start; /* text, graphic, bar codes: where the data stands in the input, always inside it, and its bytes there. A graphic's are its dots, row by row, as the */
     size_t data_len;   /* file has them (the Rust that this is a port of draws a 1 bit black); all others are text that laddertick_data decodes */
     laddertick_walk next; /* for the next step */
 } laddertick_answer;
