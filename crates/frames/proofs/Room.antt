@@ -28,7 +28,7 @@ use Rattle.grammar.specs.Units.{Header, EplUnit, block, line, last, gw, bytes, 
 use Rattle.grammar.specs.Epl.{epl, acts, blockSays}
 use Rattle.grammar.proofs.FoundLaws.{reads}
 use Rattle.grammar.proofs.BlockLaws.{block-length}
-use Rattle.grammar.proofs.SpanLaws.{act-yields}
+use Rattle.grammar.proofs.SpanLaws.{spans-shifted, act-yields}
 use Rattle.grammar.proofs.LengthLaws.{Long, line-long}
 use Rattle.walk.specs.Steps.{stateOf, fresh, traceOf}
 use Rattle.frames.specs.Listing.{FramedLabel, linesOf, labelLines, listingOf, outcomeOf}
@@ -53,24 +53,6 @@ one-span (BarcodeDatamatrix e) = inr (_, refl)
 one-span (BarcodeQr e) = inr (_, refl)
 one-span (Maxicode e) = inr (_, refl)
 one-span (BarcodeUcpe e) = inr (_, refl)
-
-spans-shifted : (n : ℕ) (e : LabelElement) → spans (shifted n e) ≡ map (later n) (spans e)
-spans-shifted n (Text e) = refl
-spans-shifted n (GraphicBox e) = refl
-spans-shifted n (DiagonalLine e) = refl
-spans-shifted n (GraphicField e) = refl
-spans-shifted n (Barcode128 e) = refl
-spans-shifted n (BarcodeEan13 e) = refl
-spans-shifted n (BarcodeEan8 e) = refl
-spans-shifted n (BarcodeUca e) = refl
-spans-shifted n (Barcode2of5 e) = refl
-spans-shifted n (Barcode39 e) = refl
-spans-shifted n (BarcodePdf417 e) = refl
-spans-shifted n (BarcodeAztec e) = refl
-spans-shifted n (BarcodeDatamatrix e) = refl
-spans-shifted n (BarcodeQr e) = refl
-spans-shifted n (Maxicode e) = refl
-spans-shifted n (BarcodeUcpe e) = refl
 
 -- a line of 2 digits a byte and an LF, and the 11 bytes of frame 00's line
 abbrev Pays : ℕ → LabelElement → Type 0

@@ -9,34 +9,15 @@ use lib.ListN.{length, drop, length-append, length-drop}
 use borrow.Author.Tests.{ltb-false}
 use Rattle.elements.specs.declared.data_span.DataSpan.{DataSpan}
 use Rattle.elements.specs.declared.label_element.LabelElement.{LabelElement}
-use Rattle.elements.specs.declared.label_element.LabelElement.the-variants.{Text, GraphicBox, DiagonalLine, GraphicField, Barcode128, BarcodeEan13, BarcodeEan8, BarcodeUca, Barcode2of5, Barcode39, BarcodePdf417, BarcodeAztec, BarcodeDatamatrix, BarcodeQr, Maxicode, BarcodeUcpe}
 use Rattle.elements.specs.declared.label_position.LabelPosition.{LabelPosition}
-use Rattle.elements.specs.Spans.{later, shifted, spans, AllIn, In}
+use Rattle.elements.specs.Spans.{later, spans, AllIn, In}
 use Rattle.whole.specs.Language.{First, none, bad, unit, Act, keep, clear, yield, print, outside}
 use Rattle.whole.specs.Step.{State, state, Answer, element, cleared, printed, ended, refused, handing, printing, onAct, onFirst, answerBy, answer, step, longest}
 use Rattle.grammar.specs.Units.{EplUnit, bytes}
 use Rattle.grammar.specs.Epl.{acts, epl}
 use Rattle.grammar.proofs.FoundLaws.{reads}
+use Rattle.grammar.proofs.SpanLaws.{spans-shifted}
 use Rattle.walk.proofs.UnitLaws.{inside}
-
--- where data stands that is moved
-spans-shifted : (n : ℕ) (e : LabelElement) → spans (shifted n e) ≡ map (later n) (spans e)
-spans-shifted n (Text e) = refl
-spans-shifted n (GraphicBox e) = refl
-spans-shifted n (DiagonalLine e) = refl
-spans-shifted n (GraphicField e) = refl
-spans-shifted n (Barcode128 e) = refl
-spans-shifted n (BarcodeEan13 e) = refl
-spans-shifted n (BarcodeEan8 e) = refl
-spans-shifted n (BarcodeUca e) = refl
-spans-shifted n (Barcode2of5 e) = refl
-spans-shifted n (Barcode39 e) = refl
-spans-shifted n (BarcodePdf417 e) = refl
-spans-shifted n (BarcodeAztec e) = refl
-spans-shifted n (BarcodeDatamatrix e) = refl
-spans-shifted n (BarcodeQr e) = refl
-spans-shifted n (Maxicode e) = refl
-spans-shifted n (BarcodeUcpe e) = refl
 
 all-in-later : (n m end : ℕ) (ds : List DataSpan) → n + m ≤ end → AllIn m ds → AllIn end (map (later n) ds)
 all-in-later n m end [] h a = tt
