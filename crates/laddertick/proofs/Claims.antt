@@ -31,7 +31,7 @@ use Rattle.grammar.specs.Normal.{normal, blocks, normalised}
 use Rattle.grammar.proofs.NormalLaws.{length-normalised-le}
 use Rattle.grammar.proofs.Normalises.{normalises}
 use Rattle.grammar.proofs.ReadingLaws.{ill-formed, well-formed-range}
-use Rattle.walk.proofs.UnitLaws.{inside}
+use Rattle.units.proofs.UnitLaws.{inside}
 use Rattle.walk.specs.Steps.{fresh, stateOf}
 use Rattle.frames.specs.Listing.{FramedLabel, outcomeOf}
 use Rattle.frames.proofs.PrintingLaws.{lists-kept}

@@ -17,7 +17,7 @@ use Rattle.grammar.specs.Units.{EplUnit, bytes}
 use Rattle.grammar.specs.Epl.{acts, epl}
 use Rattle.grammar.proofs.FoundLaws.{reads}
 use Rattle.grammar.proofs.SpanLaws.{spans-shifted}
-use Rattle.walk.proofs.UnitLaws.{inside}
+use Rattle.units.proofs.UnitLaws.{inside}
 
 all-in-later : (n m end : ℕ) (ds : List DataSpan) → n + m ≤ end → AllIn m ds → AllIn end (map (later n) ds)
 all-in-later n m end [] h a = tt

@@ -6,11 +6,11 @@ ghost use Rattle.walk.specs.Steps.{stateOf, answerOf};
 use crate::state::Printed;
 use crate::state::Step;
 use crate::state::WalkState;
-use crate::unit::UnitReading;
-use crate::unit::read_unit;
 use elements::label_position::LabelPosition;
 use elements::refusal::INPUT_MAX;
 use elements::refusal::Refusal;
+use units::unit::UnitReading;
+use units::unit::read_unit;
 
 // The answer at the end of the input: what is pending is printed, then the end.
 fn at_end(at: usize, reference: LabelPosition, n: usize) -> Step

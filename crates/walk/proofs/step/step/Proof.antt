@@ -9,9 +9,10 @@ use Rattle.whole.specs.Step.{step, answer, handing}
 use Rattle.whole.proofs.TurnLaws.{Fits, onReading, turn-at, fits-at, pass-on, print-none, print-some, step-long, step-past, step-many, step-within}
 use Rattle.grammar.specs.Epl.{epl}
 use Rattle.grammar.proofs.FoundLaws.{reads}
-use Rattle.walk.specs.Steps.{stateOf, unitOf}
-use Rattle.walk.specs.declared.unit.UnitReading.{UnitReading}
-use Rattle.walk.specs.declared.unit.UnitReading.the-variants.{Nothing, Fault, Passed, Cleared, Element, Print}
+use Rattle.units.specs.Unit.{unitOf}
+use Rattle.walk.specs.Steps.{stateOf}
+use Rattle.units.specs.declared.unit.UnitReading.{UnitReading}
+use Rattle.units.specs.declared.unit.UnitReading.the-variants.{Nothing, Fault, Passed, Cleared, Element, Print}
 use borrow.Author.Needs.{needs}
 use Rattle.walk.proofs.step.step.Statement.{statement}
 use Rattle.walk.proofs.step.step.Tie as tie

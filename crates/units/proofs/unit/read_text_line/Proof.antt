@@ -1,12 +1,12 @@
--- `walk::unit::read_text_line` meets its contract. Assumes nothing.
+-- `units::unit::read_text_line` meets its contract. Assumes nothing.
 use mathlib.Core.Path.{sym}
 use native.Mathlib.Omega.{arith}
 use lib.ListN.{take, length-take}
 use lib.Seq.{length-take-le}
-use Rattle.walk.proofs.UnitLaws.{line-moved}
+use Rattle.units.proofs.UnitLaws.{line-moved}
 use borrow.Author.Needs.{needs}
-use Rattle.walk.proofs.unit.read_text_line.Statement.{statement}
-use Rattle.walk.proofs.unit.read_text_line.Tie as tie
+use Rattle.units.proofs.unit.read_text_line.Statement.{statement}
+use Rattle.units.proofs.unit.read_text_line.Tie as tie
 
 find-requires : tie.Need-find-requires
 find-requires c κs = search needs

@@ -1,12 +1,12 @@
--- `walk::unit::read_unit` meets its contract. Assumes nothing.
+-- `units::unit::read_unit` meets its contract. Assumes nothing.
 use mathlib.Core.Path.{sym, _∙_}
 use native.Mathlib.Omega.{arith}
 use Rattle.grammar.proofs.LineTurnLaws.{line-reads}
 use Rattle.grammar.proofs.BlockTurnLaws.{block-none, block-fault, block-gives}
-use Rattle.walk.proofs.UnitLaws.{reading-none}
+use Rattle.units.proofs.UnitLaws.{reading-none}
 use borrow.Author.Needs.{needs}
-use Rattle.walk.proofs.unit.read_unit.Statement.{statement}
-use Rattle.walk.proofs.unit.read_unit.Tie as tie
+use Rattle.units.proofs.unit.read_unit.Statement.{statement}
+use Rattle.units.proofs.unit.read_unit.Tie as tie
 
 returns : tie.Need-returns
 returns c = let a = c .before .before .args in rw (reading-none (a .rest .now) (a .reference) (c .if1 .taken))

@@ -1,4 +1,4 @@
--- `walk::unit::line_unit` meets its contract. Assumes nothing.
+-- `units::unit::line_unit` meets its contract. Assumes nothing.
 use mathlib.Core.Path.{_≡_, sym, ap}
 use Prim.Native.Nat.{ℕ}
 use Rattle.elements.specs.declared.label_position.LabelPosition.{LabelPosition}
@@ -6,8 +6,8 @@ use Rattle.parameters.specs.declared.reading.Reading.{Reading}
 use Rattle.whole.specs.Reading.{did}
 use Rattle.grammar.specs.Epl.{actOf}
 use borrow.Author.Needs.{needs}
-use Rattle.walk.proofs.unit.line_unit.Statement.{statement}
-use Rattle.walk.proofs.unit.line_unit.Tie as tie
+use Rattle.units.proofs.unit.line_unit.Statement.{statement}
+use Rattle.units.proofs.unit.line_unit.Tie as tie
 
 by : (size : ℕ) (r : LabelPosition) {p q : Reading} → p ≡ q → did size (actOf r q) ≡ did size (actOf r p)
 by size r e = ap (λ (x : Reading). did size (actOf r x)) (sym e)

@@ -7,7 +7,7 @@ ghost use Rattle.grammar.specs.Epl.{epl, actOf};
 ghost use Rattle.grammar.specs.Turn.{sizeBy, lineTurn};
 ghost use Rattle.text.specs.Fields.{indexOf};
 ghost use lib.ListN.{take};
-ghost use Rattle.walk.specs.Steps.{unitOf};
+ghost use Rattle.units.specs.Unit.{unitOf};
 use commands::line::read_line;
 use elements::label_element::LabelElement;
 use elements::label_position::LabelPosition;

@@ -1,0 +1,16 @@
+-- What a unit does at a reference, in the theory's words, with 01's numbers for its refusals.
+use Rattle.elements.specs.declared.label_element.LabelElement.{LabelElement}
+use Rattle.elements.specs.declared.label_position.LabelPosition.{LabelPosition}
+use Rattle.elements.specs.Refusals.{numberOf}
+use Rattle.whole.specs.Reading as theory
+use Rattle.grammar.specs.Epl.{origin}
+use Rattle.units.specs.declared.unit.UnitReading.{UnitReading}
+use Rattle.units.specs.declared.unit.UnitReading.the-variants as unit
+
+abbrev pub unitOf : UnitReading → theory.Reading LabelPosition LabelElement Unit
+unitOf unit.Nothing = theory.nothing
+unitOf (unit.Fault k) = theory.fault (numberOf k)
+unitOf (unit.Passed size r) = theory.passes size r
+unitOf (unit.Cleared size) = theory.clears-to size origin
+unitOf (unit.Element size e) = theory.gives size e
+unitOf (unit.Print size) = theory.asks-print size tt
