@@ -5,8 +5,10 @@
 
 mod inputs;
 mod library;
+mod memory;
 
 use inputs::{Kind, KINDS};
+use memory::Memory;
 use std::hint::black_box;
 use std::process::exit;
 use std::time::{Duration, Instant};
@@ -41,41 +43,55 @@ fn measured(function: &Function, input: &[u8], out: &mut [u8]) -> usize {
 }
 
 /// Room for any normalised text.
-fn room(size: usize) -> Vec<u8> {
-    vec![0; size + size / 6 + 1]
+fn room(size: usize) -> Memory {
+    Memory::new(size + size / 6 + 1)
 }
 
-/// A function over inputs, one after the other.
+/// What the caches hold when a call begins: what the last one left there, or nothing of the input and of the room.
+#[derive(Clone, Copy)]
+enum Caches {
+    Left,
+    Emptied,
+}
+
+/// A function over an input.
 struct Job<'a> {
     function: &'a Function,
-    inputs: &'a [Vec<u8>],
-    outs: Vec<Vec<u8>>,
+    input: &'a Memory,
+    out: Memory,
+    caches: Caches,
     best: Duration,
 }
 
 impl<'a> Job<'a> {
-    fn new(function: &'a Function, inputs: &'a [Vec<u8>]) -> Job<'a> {
-        Job { function, inputs, outs: inputs.iter().map(|input| room(input.len())).collect(), best: Duration::MAX }
+    fn new(function: &'a Function, input: &'a Memory) -> Job<'a> {
+        Job { function, input, out: room(input.len()), caches: Caches::Left, best: Duration::MAX }
+    }
+
+    fn begun_with(self, caches: Caches) -> Job<'a> {
+        Job { caches, ..self }
     }
 
     fn call(&mut self) {
-        let start = Instant::now();
-        for (input, out) in self.inputs.iter().zip(&mut self.outs) {
-            black_box(measured(self.function, input, out));
+        if let Caches::Emptied = self.caches {
+            self.input.leave_caches();
+            self.out.leave_caches();
         }
+        let start = Instant::now();
+        black_box(measured(self.function, self.input, &mut self.out));
         self.best = self.best.min(start.elapsed());
     }
 
     fn nanoseconds_a_byte(&self) -> f64 {
-        self.best.as_nanos() as f64 / self.inputs.iter().map(Vec::len).sum::<usize>() as f64
+        self.best.as_nanos() as f64 / self.input.len() as f64
     }
 }
 
 /// Nanoseconds a byte of each job, the best of many calls. The jobs take turns, so that whatever else the machine does meets all of them; each is called
 /// twice in its turn, so that its second call finds in the caches what they can hold.
-fn times_of<const N: usize>(mut jobs: [Job; N]) -> [f64; N] {
+fn times_of<const N: usize>(seconds: u64, mut jobs: [Job; N]) -> [f64; N] {
     let (begun, mut turns) = (Instant::now(), 0);
-    while turns < 3 || (begun.elapsed() < Duration::from_secs(1) && turns < 500) {
+    while turns < 3 || (begun.elapsed() < Duration::from_secs(seconds) && turns < 500) {
         for job in &mut jobs {
             job.call();
             job.call();
@@ -88,13 +104,18 @@ fn times_of<const N: usize>(mut jobs: [Job; N]) -> [f64; N] {
     jobs.map(|job| job.nanoseconds_a_byte())
 }
 
-/// How many times the time of 1 MiB a file of 16 MiB takes: beside one file of 1 MiB, which a cache may hold, and beside a sixteenth of sixteen such files,
-/// which none holds.
+/// How many times the time of 1 MiB a file of 16 MiB takes: both from memory, as a file that has just come; and both called again and again, where a cache
+/// near the processor holds the smaller one and not the larger.
 fn growth(function: &Function, kind: &Kind) -> [f64; 2] {
-    let large = [(kind.make)(16 * MIB)];
-    let small: Vec<Vec<u8>> = (0..16).map(|_| (kind.make)(MIB)).collect();
-    let [one, sixteen, whole] = times_of([Job::new(function, &small[..1]), Job::new(function, &small), Job::new(function, &large)]);
-    [16.0 * whole / one, 16.0 * whole / sixteen]
+    let (small, large) = (made(kind, MIB), made(kind, 16 * MIB));
+    [Caches::Emptied, Caches::Left].map(|caches| {
+        let [one, sixteen] = times_of(3, [&small, &large].map(|input| Job::new(function, input).begun_with(caches)));
+        16.0 * sixteen / one
+    })
+}
+
+fn made(kind: &Kind, size: usize) -> Memory {
+    Memory::holding(&(kind.make)(size))
 }
 
 /// The Rust takes minutes to hours on hostile blocks of more than this.
@@ -121,13 +142,13 @@ fn table(ours: &Function, rust: &Function) -> Vec<[(f64, f64); SIZES.len()]> {
 }
 
 fn row(kind: &Kind, size: usize, ours: &Function, rust: &Function) -> (f64, f64) {
-    let input = [(kind.make)(size)];
+    let input = made(kind, size);
     if kind.hostile && size > HOSTILE_LIMIT {
-        let [mine] = times_of([Job::new(ours, &input)]);
+        let [mine] = times_of(1, [Job::new(ours, &input)]);
         println!("| {} | {} | {mine:.3} | not run | |", kind.name, size_name(size));
         return (mine, f64::NAN);
     }
-    let [mine, theirs] = times_of([Job::new(ours, &input), Job::new(rust, &input)]);
+    let [mine, theirs] = times_of(1, [Job::new(ours, &input), Job::new(rust, &input)]);
     println!("| {} | {} | {mine:.3} | {theirs:.3} | {:.1} |", kind.name, size_name(size), theirs / mine);
     (mine, theirs)
 }
@@ -139,16 +160,16 @@ fn hostile() {
     println!("|---|---|---|---|---|");
     let kind = KINDS.iter().find(|kind| kind.hostile).unwrap();
     for size in [32 * KIB, 64 * KIB, 128 * KIB, 256 * KIB] {
-        let input = [(kind.make)(size)];
-        let [walk, parse, normalise, format] = times_of([&WALK, &PARSE, &NORMALISE, &FORMAT].map(|function| Job::new(function, &input)));
+        let input = made(kind, size);
+        let [walk, parse, normalise, format] = times_of(1, [&WALK, &PARSE, &NORMALISE, &FORMAT].map(|function| Job::new(function, &input)));
         println!("| {} | {walk:.2} | {parse:.0} | {normalise:.2} | {format:.0} |", size_name(size));
     }
 }
 
 /// The growth of every kind. Gives the greatest of ours, in both readings.
 fn grown() -> [f64; 2] {
-    println!("\n16 MiB, times the time of 1 MiB: beside one file of 1 MiB, and beside sixteen of them\n");
-    println!("| input | walk, one | walk, sixteen | normalise, one | normalise, sixteen |");
+    println!("\n16 MiB, times the time of 1 MiB: both from memory, and both called again and again\n");
+    println!("| input | walk, memory | walk, again | normalise, memory | normalise, again |");
     println!("|---|---|---|---|---|");
     let mut most: [f64; 2] = [0.0; 2];
     for kind in KINDS {
@@ -156,8 +177,8 @@ fn grown() -> [f64; 2] {
         println!("| {} | {:.1} | {:.1} | {:.1} | {:.1} |", kind.name, walk[0], walk[1], normalise[0], normalise[1]);
         most = [0, 1].map(|i| most[i].max(walk[i]).max(normalise[i]));
     }
-    let [one, sixteen] = growth(&COPY, graphics());
-    println!("\nA plain memory copy grows {one:.1} times beside one file and {sixteen:.1} times beside sixteen.");
+    let [memory, again] = growth(&COPY, graphics());
+    println!("\nA plain memory copy grows {memory:.1} times from memory and {again:.1} times called again and again.");
     most
 }
 
@@ -174,20 +195,20 @@ fn times() {
     println!("|---|---|---|---|");
     let mut beside: f64 = 0.0;
     for size in SIZES {
-        let input = [(graphics().make)(size)];
-        let [normalise, copy] = times_of([Job::new(&NORMALISE, &input), Job::new(&COPY, &input)]);
+        let input = made(graphics(), size);
+        let [normalise, copy] = times_of(1, [Job::new(&NORMALISE, &input), Job::new(&COPY, &input)]);
         println!("| {} | {normalise:.3} | {copy:.3} | {:.1} |", size_name(size), normalise / copy);
         beside = beside.max(normalise / copy);
     }
-    let [one, sixteen] = grown();
+    let [memory, again] = grown();
     println!("\nTargets\n");
     let least = |rows: &[(f64, f64)]| rows.iter().map(|(mine, theirs)| theirs / mine).fold(f64::MAX, f64::min);
     let at = KINDS.iter().position(|kind| kind.name == graphics().name).unwrap();
     target("the walk on labels, times as fast as parse, at least 4", least(&walks[0]), |r| r >= 4.0);
     target("normalise on graphics, times as fast as format_epl, at least 2", least(&texts[at]), |r| r >= 2.0);
     target("normalise on graphics, times the time of a copy, at most 3", beside, |r| r <= 3.0);
-    target("16 MiB, times the time of one file of 1 MiB, at most 18", one, |r| r <= 18.0);
-    target("16 MiB, times the time of 1 MiB that no cache holds, at most 18", sixteen, |r| r <= 18.0);
+    target("16 MiB, times the time of 1 MiB, both from memory, at most 18", memory, |r| r <= 18.0);
+    println!("- 16 MiB, times the time of 1 MiB that a cache holds from call to call: {again:.1} at most, no target");
 }
 
 fn target(words: &str, figure: f64, met: impl Fn(f64) -> bool) {
@@ -198,8 +219,7 @@ fn one(function: &str, kind: &str, size: &str) {
     let function = FUNCTIONS.iter().find(|f| f.name == function).unwrap_or_else(|| usage());
     let kind = KINDS.iter().find(|k| k.name == kind).unwrap_or_else(|| usage());
     let size: usize = size.parse().unwrap_or_else(|_| usage());
-    let input = (kind.make)(size);
-    black_box(measured(function, &input, &mut room(size)));
+    black_box(measured(function, &made(kind, size), &mut room(size)));
 }
 
 fn usage<T>() -> T {
