@@ -1,4 +1,4 @@
-// The records of src/elements that frames carry, by value, under the names of the Rust; refusals. Data only.
+// The records of src/elements that frames carry, by value, under the names of the Rust; refusals, and the answer of a call that fills a buffer. Data only.
 pub mod barcode_128;
 pub mod barcode_2of5;
 pub mod barcode_39;
@@ -12,6 +12,7 @@ pub mod barcode_upca;
 pub mod barcode_upce;
 pub mod data_span;
 pub mod field_orientation;
+pub mod filled;
 pub mod font;
 pub mod graphic_box;
 pub mod graphic_diagonal_line;

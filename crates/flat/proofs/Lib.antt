@@ -1,2 +1,2 @@
--- the answer to a host that asks for decoded data
+-- how long decoded data is
 pub mod DecodingLaws

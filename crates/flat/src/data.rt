@@ -1,6 +1,7 @@
 // The bytes of decoded data, into a buffer that the host lends. They are measured before anything is written.
-ghost use Rattle.flat.specs.Decoding.{answerOf, bufferOf};
-ghost use Rattle.flat.specs.Written.{Flat};
+ghost use Rattle.whole.specs.Given.{Fills};
+ghost use Rattle.flat.specs.Decoding.{dueOf};
+ghost use Rattle.flat.specs.Written.{givenFlat};
 use crate::written::Written;
 use element_frames::data::part;
 use elements::data_span::DataSpan;
@@ -13,7 +14,7 @@ pub const DECODED_MAX: usize = 50331648;
 
 // What the bytes at d are decoded to, as far as the input goes, from the start of out; or a refusal: 14, or 15 with the length needed.
 pub fn decode(input: &[u8], d: DataSpan, out: &mut [u8]) -> Written
-    ensures { λ r. ⌜ Flat (now (out .exit)) (now (out .entry)) (answerOf (now (input .entry)) d) (bufferOf (now (input .entry)) d) r ⌝ }
+    ensures { λ r. ⌜ Fills (now (out .exit)) (now (out .entry)) (dueOf (now (input .entry)) d) (givenFlat r) ⌝ }
 {
     if INPUT_MAX < input.len() {
         return Written {

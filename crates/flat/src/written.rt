@@ -1,4 +1,4 @@
-// What a call that writes into a lent buffer gives back.
+// What a call that fills a lent buffer gives back.
 
 // number 0: the text is written, place is its length. Else a refusal: its number and its place.
 #[repr(C)]

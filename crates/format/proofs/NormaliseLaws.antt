@@ -1,28 +1,17 @@
--- The normalised text from a place on, as the loops over the chunks want it, and the answer of `normalise`. Assumes nothing.
+-- The normalised text from a place on, as the loops over the chunks want it. Assumes nothing.
 use mathlib.Core.Path.{_≡_, sym, ap, _∙_}
 use mathlib.Core.List.{List, [], _∷_, _++_}
 use Prim.Native.Nat.{ℕ, _+_, _-_, _<_, _≤_}
 use native.Mathlib.Omega.{arith}
 use lib.ListN.{length, set, length-append, length-drop, take, drop, drop-of-length-le}
-use lib.Dec.{ltb}
 use lib.Seq.{length-take-le, drop-drop, sets}
-use borrow.Author.Tests.{lt-ltb, le-ltb}
 use Rattle.text.specs.Wrote.{Wrote, Put}
-use Rattle.text.proofs.BoolLaws.{test}
 use Rattle.text.proofs.WroteLaws.{wrote, wrote-left}
-use Rattle.elements.specs.declared.refusal.Refusal.{Refusal}
-use Rattle.elements.specs.declared.refusal.Refusal.the-variants.{InputTooLong, OutputTooShort}
-use Rattle.elements.specs.Refusals.{numberOf}
-use Rattle.whole.specs.Given.{stored}
-use Rattle.whole.specs.Step.{longest}
-use Rattle.whole.proofs.GivenLaws.{stored-long, short}
 use Rattle.grammar.specs.Normal.{normalised}
 use Rattle.grammar.proofs.ChunkLaws.{normalised-is}
 use Rattle.grammar.proofs.NormalLaws.{normalised-nil}
 use Rattle.format.specs.declared.normalise.Chunk.{Chunk}
-use Rattle.format.specs.declared.normalise.Normalised.{Normalised}
-use Rattle.format.specs.declared.normalise.Normalised.the-variants.{Bytes, Refused}
-use Rattle.format.specs.Normalise.{ended, TakesAt, Formats}
+use Rattle.format.specs.Normalise.{ended, TakesAt}
 use Rattle.format.proofs.TakesLaws.{ended-some, ended-none}
 
 -- nothing is left at the end
@@ -71,36 +60,3 @@ module _ (part : List ℕ) (h : length part ≡ 0 → ⊥) where
 
   pub put-some : (m l : List ℕ) (at : ℕ) → Wrote m l at part → Put (set m (at + length part) 10) l at (ended part) (at + length part + 1)
   put-some m l at w = record { wrote = wrote (wrote-left part (10 ∷ []) w ∙ ap (sets l at) (sym whole)); next = omega (arith, ended-length) }
-
--- ---- the answer
-module _ (s l : List ℕ) where
-  pub answer-long : longest < length s → Formats l l s (Refused InputTooLong 0)
-  answer-long h = let e = lt-ltb longest (length s) h in record { answer = simp e; buffer = simp e }
-
-  module _ (n : ℕ) (h : length s ≤ longest) (is : n ≡ length (normalised s)) where
-    pub answer-short : length l < n → Formats l l s (Refused OutputTooShort n)
-    answer-short k =
-        let e = le-ltb longest (length s) h in
-        let f = lt-ltb (length l) (length (normalised s)) (omega arith) in
-        record { answer = simp (e, f, is); buffer = simp (e, f) }
-
-    pub answer-written : (b : List ℕ) (r : ℕ) → n ≤ length l → Put b l 0 (normalised s) r → Formats b l s (Bytes r)
-    answer-written b r k p =
-        let e = le-ltb longest (length s) h in
-        let f = le-ltb (length l) (length (normalised s)) (omega arith) in
-        let m : r ≡ length (normalised s) = omega (arith, p .next) in
-        record { answer = simp (e, f, m); buffer = simp (e, f) (p .wrote .is) }
-
--- the buffer keeps its length
-pub formats-long : (n l s : List ℕ) (r : Normalised) → Formats n l s r → length n ≡ length l
-formats-long n l s r h =
-    test (ltb longest (length s))
-    (λ e. let b : n ≡ l = h .buffer ∙ (simp e) in ap length b)
-    (λ e. let b : n ≡ stored (normalised s) l = h .buffer ∙ (simp e) in ap length b ∙ stored-long (normalised s) l)
-
--- a refusal leaves the buffer as it came
-pub formats-kept : (n l s : List ℕ) (k : Refusal) (p : ℕ) → Formats n l s (Refused k p) → n ≡ l
-formats-kept n l s k p h =
-    test (ltb longest (length s))
-    (λ e. h .buffer ∙ (simp e))
-    (λ e. h .buffer ∙ (simp (e, short (normalised s) l (numberOf k) p (h .answer ∙ (simp e)) .lack)))

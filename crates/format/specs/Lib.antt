@@ -1,2 +1,2 @@
--- 01, "format.rs": what the normaliser answers and writes
+-- 01, "format.rs": what is due to the normaliser
 pub mod Normalise

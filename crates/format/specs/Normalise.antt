@@ -1,38 +1,19 @@
--- What the normaliser answers and writes (01, "format.rs" and "Who causes which number"); the text itself is `normalised` of the crate `grammar`.
+-- What is due to the normaliser (01, "format.rs" and "Who causes which number"); the text itself is `normalised` of the crate `grammar`.
 use mathlib.Core.Path.{_≡_}
-use mathlib.Core.Bool.{cond}
 use mathlib.Core.List.{List, [], _∷_, _++_}
 use Prim.Native.Nat.{ℕ, _+_, _<_, _≤_}
-use lib.Dec.{ltb}
 use lib.ListN.{length, take, drop}
-use Rattle.elements.specs.Refusals.{numberOf}
-use Rattle.whole.specs.Given.{Given, bytes, refused, fitting, stored}
+use Rattle.whole.specs.Given.{Due, text, within}
 use Rattle.whole.specs.Language.{First}
 use Rattle.whole.specs.Step.{longest}
 use Rattle.grammar.specs.Units.{EplUnit}
 use Rattle.grammar.specs.Found.{textLine}
 use Rattle.grammar.specs.Normal.{chunk, written, normalised}
 use Rattle.format.specs.declared.normalise.Chunk.{Chunk}
-use Rattle.format.specs.declared.normalise.Normalised.{Normalised}
-use Rattle.format.specs.declared.normalise.Normalised.the-variants.{Bytes, Refused}
 
--- its answer in 01's numbers
-abbrev pub givenOf : Normalised → Given
-givenOf (Bytes n) = bytes n
-givenOf (Refused k p) = refused (numberOf k) p
-
--- "14 input over 16,777,216 bytes", place 0; "The normaliser knows 14 and 15 only", 14 first
-abbrev pub answerOf : List ℕ → ℕ → Given
-answerOf s m = cond (ltb longest (length s)) (refused 14 0) (fitting (normalised s) m)
-
--- the buffer l afterwards
-abbrev pub bufferOf : List ℕ → List ℕ → List ℕ
-bufferOf s l = cond (ltb longest (length s)) l (stored (normalised s) l)
-
--- what `normalise` does with the input s: l becomes n
-pub record Formats (n l s : List ℕ) (r : Normalised) : Type 0 where
-  pub answer : givenOf r ≡ answerOf s (length l)
-  pub buffer : n ≡ bufferOf s l
+-- what is due to `normalise`: "The normaliser knows 14 and 15 only"
+abbrev pub dueOf : List ℕ → Due
+dueOf s = within longest s (text (normalised s))
 
 -- ---- the parts
 -- "one left empty is dropped; every other line, and every block, copied whole, is followed by one LF"

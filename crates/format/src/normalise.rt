@@ -4,10 +4,13 @@ ghost use mathlib.Core.Path.{_≡_};
 ghost use Prim.Native.Nat.{_+_, _/_, _<_, _≤_};
 ghost use lib.ListN.{length};
 ghost use Rattle.text.specs.Wrote.{Put};
+ghost use Rattle.whole.specs.Given.{Fills};
 ghost use Rattle.whole.specs.Step.{longest};
+ghost use Rattle.grammar.specs.Filled.{givenOf};
 ghost use Rattle.grammar.specs.Found.{textLine};
 ghost use Rattle.grammar.specs.Normal.{normalised};
-ghost use Rattle.format.specs.Normalise.{ended, Takes, TakesAt, Blocks, Formats};
+ghost use Rattle.format.specs.Normalise.{dueOf, ended, Takes, TakesAt, Blocks};
+use elements::filled::Filled;
 use elements::refusal::INPUT_MAX;
 use elements::refusal::Refusal;
 use graphics::gw_span::Graphic;
@@ -17,12 +20,6 @@ use text::blank::trim_ascii_end;
 use text::blank::trim_ascii_start;
 use text::put::put_bytes;
 use text::scan::find;
-
-// The length of a normalised text; or why there is none, and its place.
-pub enum Normalised {
-    Bytes(usize),
-    Refused(Refusal, usize),
-}
 
 // What stands first: its bytes, and the part of them that stays. Nothing is written for a part of no bytes.
 pub struct Chunk {
@@ -142,17 +139,17 @@ fn room_for(n: usize) -> usize
 }
 
 // The normalised text from the start of out, or a refusal: 14, or 15 with the length needed.
-pub fn normalise(input: &[u8], out: &mut [u8]) -> Normalised
-    ensures { λ r. ⌜ Formats (now (out .exit)) (now (out .entry)) (now (input .entry)) r ⌝ }
+pub fn normalise(input: &[u8], out: &mut [u8]) -> Filled
+    ensures { λ r. ⌜ Fills (now (out .exit)) (now (out .entry)) (dueOf (now (input .entry))) (givenOf r) ⌝ }
 {
     if INPUT_MAX < input.len() {
-        return Normalised::Refused(Refusal::InputTooLong, 0);
+        return Filled::Refused(Refusal::InputTooLong, 0);
     }
     if out.len() < room_for(input.len()) {
         let n = measure(input);
         if out.len() < n {
-            return Normalised::Refused(Refusal::OutputTooShort, n);
+            return Filled::Refused(Refusal::OutputTooShort, n);
         }
     }
-    Normalised::Bytes(put_chunks(input, out))
+    Filled::Bytes(put_chunks(input, out))
 }

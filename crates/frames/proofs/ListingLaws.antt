@@ -3,17 +3,13 @@ use mathlib.Core.Path.{_≡_, refl, sym, ap, _∙_}
 use mathlib.Core.List.{List, [], _∷_, _++_}
 use types.Run.{OneOf, miss}
 use denote.Enum.Declared.{tagOf, declared}
-use Prim.Native.Nat.{ℕ, _+_, _*_, _<_, _≤_, min}
+use Prim.Native.Nat.{ℕ, _+_, _*_, _≤_, min}
 use native.Mathlib.Omega.{arith}
 use native.Mathlib.Nat.{add-zero, zero-add, min-eq-right, min-le-left}
 use lib.ListN.{length, length-append, length-take, length-drop, drop}
-use borrow.Author.Tests.{lt-ltb, le-ltb}
 use Rattle.elements.specs.declared.data_span.DataSpan.{DataSpan}
 use Rattle.elements.specs.declared.label_element.LabelElement.{LabelElement}
 use Rattle.elements.specs.declared.label_element.LabelElement.the-variants.{Text, GraphicBox, DiagonalLine, GraphicField, Barcode128, BarcodeEan13, BarcodeEan8, BarcodeUca, Barcode2of5, Barcode39, BarcodePdf417, BarcodeAztec, BarcodeDatamatrix, BarcodeQr, Maxicode, BarcodeUcpe}
-use Rattle.elements.specs.declared.refusal.Refusal.{Refusal}
-use Rattle.elements.specs.declared.refusal.Refusal.the-variants.{OutputTooShort}
-use Rattle.elements.specs.Refusals.{numberOf}
 use Rattle.element_frames.specs.Frame.{part, frameOf, countFrame}
 use Rattle.element_frames.specs.Hex.{lineOf}
 use Rattle.element_frames.proofs.HexLaws.{length-line, length-be32}
@@ -25,8 +21,9 @@ use Rattle.text.proofs.Utf8Laws.{length-decode-le}
 use Rattle.text.proofs.WroteLaws.{wrote, sets-append}
 use Rattle.whole.specs.Reach.{Final, accepted, refusal}
 use Rattle.whole.specs.Step.{step, longest}
-use Rattle.whole.specs.Given.{Given, bytes, refused}
-use Rattle.whole.specs.Trace.{Trace, stops, refuses, yields, clears, prints, Outcome, listed, refusal-of, ending, final, labelsIn, lead, after, trace, onAnswer, Goes}
+use Rattle.whole.specs.Given.{Given, bytes, refused, text, needed}
+use Rattle.whole.proofs.GivenLaws.{bytes≢refused, bytes-inj}
+use Rattle.whole.specs.Trace.{Trace, stops, refuses, yields, clears, prints, ending, final, labelsIn, lead, after, trace, onAnswer, Goes}
 use Rattle.whole.proofs.TraceLaws.{labels-after, trace-by, goes-by}
 use Rattle.grammar.specs.Epl.{epl}
 use Rattle.grammar.proofs.FoundLaws.{reads}
@@ -35,8 +32,7 @@ use Rattle.walk.specs.declared.state.WalkState.{WalkState}
 use Rattle.walk.specs.declared.state.Step.{Step}
 use Rattle.walk.specs.declared.state.Step.the-variants.{Element, Clear, Print, End, Refused}
 use Rattle.walk.proofs.state.Step.{enum}
-use Rattle.frames.specs.Listing.{FramedLabel, linesOf, labelLines, listingOf, outcomeOf, neededOf, Lists, frontFrames, textFrom}
-use Rattle.frames.specs.declared.listing.Listed.the-variants as listing
+use Rattle.frames.specs.Listing.{FramedLabel, linesOf, labelLines, listingOf, listingDue, dueOf, frontFrames, textFrom}
 
 -- ---- the length, as the first pass counts it: of the labels so far, and of what is pending
 abbrev pub sizeFrom : List ℕ → ℕ → ℕ → Trace LabelElement Unit → Given
@@ -95,11 +91,11 @@ frame-len-le s e n q = rw q (min-le-left 4294967295 (length (frameOf s e)))
 pub frame-len-is : (s : List ℕ) (e : LabelElement) → length s ≤ longest → min 4294967295 (length (frameOf s e)) ≡ length (frameOf s e)
 frame-len-is s e h = min-eq-right (omega (arith, frame-in s e))
 
-size-cons : (f : Final) (k : ℕ) (l : FramedLabel) (ls : List FramedLabel) → longer k (neededOf (ending f (l ∷ ls))) ≡ longer (k + length (labelLines l)) (neededOf (ending f ls))
+size-cons : (f : Final) (k : ℕ) (l : FramedLabel) (ls : List FramedLabel) → longer k (needed (listingDue (ending f (l ∷ ls)))) ≡ longer (k + length (labelLines l)) (needed (listingDue (ending f ls)))
 size-cons accepted k l ls = ap bytes (omega (arith, length-append (labelLines l) (listingOf ls)))
 size-cons (refusal n p) k l ls = refl
 
-size-trace : (s : List ℕ) (k : ℕ) (p : List (List ℕ)) (t : Trace LabelElement Unit) → longer k (neededOf (ending (final t) (labelsIn epl (List ℕ) frameOf s p t))) ≡ sizeFrom s k (length (linesOf p)) t
+size-trace : (s : List ℕ) (k : ℕ) (p : List (List ℕ)) (t : Trace LabelElement Unit) → longer k (needed (listingDue (ending (final t) (labelsIn epl (List ℕ) frameOf s p t)))) ≡ sizeFrom s k (length (linesOf p)) t
 size-trace s k p stops = ap bytes (add-zero k)
 size-trace s k p (refuses n j) = refl
 size-trace s k p (yields e t) = size-trace s k (p ++ (frameOf s e ∷ [])) t ∙ ap (λ (m : ℕ). sizeFrom s k m t) (length-lines p (frameOf s e))
@@ -109,8 +105,8 @@ size-trace s k p (prints n q t) =
     ∙ size-trace s (k + length (labelLines (record { count = n; says = q; frames = p }))) [] t
     ∙ ap (λ (m : ℕ). sizeFrom s (k + m) 0 t) (length-label n q p)
 
-pub size-is : (s : List ℕ) → neededOf (outcomeOf s) ≡ sizeFrom s 0 0 (traceOf s fresh)
-size-is s = sym (longer-zero (neededOf (outcomeOf s))) ∙ size-trace s 0 [] (traceOf s fresh)
+pub size-is : (s : List ℕ) → needed (dueOf s) ≡ sizeFrom s 0 0 (traceOf s fresh)
+size-is s = sym (longer-zero (needed (dueOf s))) ∙ size-trace s 0 [] (traceOf s fresh)
 
 -- ---- at a step: r is the answer of the step from w, and q what it was matched with
 -- the whole walk by the first step's answer
@@ -157,36 +153,14 @@ put-both {m} {n} {l} {at} {j} {r} xs ys a b =
       next = omega (arith, a .next, b .next, length-append xs ys);
     }
 
--- ---- the answer of `list`, o being what the walk lists
-pub list-refused : (o : Outcome (List ℕ) Unit) (l : List ℕ) (k : Refusal) (p : ℕ) → refused (numberOf k) p ≡ neededOf o → Lists l l o (listing.Refused k p)
-list-refused (listed ls) l k p e = let z : _≡_ {A = ℕ} 0 1 = cc in absurd (omega arith)
-list-refused (refusal-of m q) l k p e = record { answer = e; buffer = refl }
+-- ---- the labels that are written, where the walk lists them
+due-by : (f : Final) (ls : List FramedLabel) (n : ℕ) → bytes n ≡ needed (listingDue (ending f ls)) → listingDue (ending f ls) ≡ text (listingOf ls)
+due-by accepted ls n e = refl
+due-by (refusal m q) ls n e = absurd (bytes≢refused e)
 
-pub list-short : (o : Outcome (List ℕ) Unit) (l : List ℕ) (n : ℕ) → bytes n ≡ neededOf o → length l < n → Lists l l o (listing.Refused OutputTooShort n)
-list-short (listed ls) l n e h =
-    let m : n ≡ length (listingOf ls) = cc in
-    let b = lt-ltb (length l) (length (listingOf ls)) (omega arith) in
-    record { answer = simp (b, m); buffer = simp b }
-list-short (refusal-of m q) l n e h = let z : _≡_ {A = ℕ} 0 1 = cc in absurd (omega arith)
+module _ (s : List ℕ) (n : ℕ) (e : bytes n ≡ needed (dueOf s)) where
+  pub due-text : dueOf s ≡ text (textFrom s fresh)
+  due-text = due-by (final (traceOf s fresh)) (labelsIn epl (List ℕ) frameOf s [] (traceOf s fresh)) n e
 
-size-bytes : (f : Final) (ls : List FramedLabel) (n : ℕ) → bytes n ≡ neededOf (ending f ls) → n ≡ length (listingOf ls)
-size-bytes accepted ls n e = cc
-size-bytes (refusal m q) ls n e = let z : _≡_ {A = ℕ} 0 1 = cc in absurd (omega arith)
-
-written-by : (f : Final) (ls : List FramedLabel) (b l : List ℕ) (n r : ℕ) → bytes n ≡ neededOf (ending f ls) → n ≤ length l → Put b l 0 (listingOf ls) r → Lists b l (ending f ls) (listing.Bytes r)
-written-by accepted ls b l n r e h p =
-    let m : n ≡ length (listingOf ls) = cc in
-    let q = le-ltb (length l) (length (listingOf ls)) (omega arith) in
-    let k : r ≡ length (listingOf ls) = omega (arith, p .next) in
-    record { answer = simp (q, k); buffer = simp q (p .wrote .is) }
-written-by (refusal m q) ls b l n r e h p = let z : _≡_ {A = ℕ} 0 1 = cc in absurd (omega arith)
-
-module _ (s l : List ℕ) (n : ℕ) (e : bytes n ≡ neededOf (outcomeOf s)) where
-  abbrev labelsNow : List FramedLabel
-  labelsNow = labelsIn epl (List ℕ) frameOf s [] (traceOf s fresh)
-
-  pub list-room : n ≤ length l → length (textFrom s fresh) ≤ length l
-  list-room h = omega (arith, size-bytes (final (traceOf s fresh)) labelsNow n e)
-
-  pub list-written : (b : List ℕ) (r : ℕ) → n ≤ length l → Put b l 0 (textFrom s fresh) r → Lists b l (outcomeOf s) (listing.Bytes r)
-  list-written b r h p = written-by (final (traceOf s fresh)) labelsNow b l n r e h p
+  pub due-length : n ≡ length (textFrom s fresh)
+  due-length = bytes-inj (e ∙ ap needed due-text)

@@ -21,6 +21,7 @@ use Rattle.parameters.specs.Position.{placed, yields}
 use Rattle.whole.specs.Language.{yield}
 use Rattle.whole.specs.Step.{State, Answer, element, cleared, printed, ended, refused, step}
 use Rattle.whole.specs.Reach.{Final, accepted, refusal}
+use Rattle.whole.specs.Given.{fitting}
 use Rattle.whole.specs.Trace.{Trace, Goes, left, Outcome, listed, refusal-of, ending, final, labelsIn, trace, onAnswer}
 use Rattle.whole.proofs.TraceLaws.{trace-is, goes-step, Paid, paid-step}
 use Rattle.commands.specs.Line.{readLine}
@@ -31,8 +32,9 @@ use Rattle.grammar.proofs.BlockLaws.{block-length}
 use Rattle.grammar.proofs.SpanLaws.{spans-shifted, act-yields}
 use Rattle.grammar.proofs.LengthLaws.{Long, line-long}
 use Rattle.walk.specs.Steps.{stateOf, fresh, traceOf}
-use Rattle.frames.specs.Listing.{FramedLabel, linesOf, labelLines, listingOf, outcomeOf}
-use Rattle.frames.specs.Printing.{textOf, printedOf, shownOf}
+use Rattle.frames.specs.Listing.{FramedLabel, linesOf, labelLines, listingOf, outcomeOf, listingDue, dueOf}
+use Rattle.frames.specs.Printing.{shownOf, printedOf}
+use Rattle.frames.specs.Printing as printing
 use Rattle.frames.proofs.ListingLaws.{length-lines, length-label}
 
 -- an element has one span of data or none
@@ -136,10 +138,10 @@ length-listing-le s ls e =
     (omega (arith, bounded (suc (left s (stateOf fresh))) s (stateOf fresh) [] (omega arith)))
 
 -- a buffer of 16 bytes for each of 65,536 is never too short
-pub never-short : (s : List ℕ) → length s ≤ 65536 → printedOf s 1048576 ≡ shownOf (outcomeOf s)
-unfolding printedOf
+pub never-short : (s : List ℕ) → length s ≤ 65536 → printedOf s 1048576 ≡ shownOf (dueOf s)
+unfolding printing.printed
 never-short s h = rw (le-ltb 65536 (length s) h) (by (outcomeOf s) (length-listing-le s))
   where
-    by : (o : Outcome (List ℕ) Unit) → ((ls : List FramedLabel) → o ≡ listed ls → length (listingOf ls) ≤ 16 * length s) → textOf o 1048576 ≡ shownOf o
+    by : (o : Outcome (List ℕ) Unit) → ((ls : List FramedLabel) → o ≡ listed ls → length (listingOf ls) ≤ 16 * length s) → shownOf (fitting (listingDue o) 1048576) ≡ shownOf (listingDue o)
     by (listed ls) r = simp (le-ltb 1048576 (length (listingOf ls)) (omega (arith, r ls refl)))
     by (refusal-of n p) r = refl

@@ -1,4 +1,4 @@
 -- 01, "Frames": the listing
 pub mod Listing
--- 01, "Frames": what the listing program prints
+-- 01, "Frames": what the programs print
 pub mod Printing

@@ -1,19 +1,14 @@
--- The listing (01, "Frames"): the lines of the labels that a walk answers, and what `list` does with them.
-use mathlib.Core.Path.{_≡_}
+-- The listing (01, "Frames"): the lines of the labels that a walk answers, which are due to `list`.
 use mathlib.Core.List.{List, [], _∷_, _++_}
 use Prim.Native.Nat.{ℕ}
-use lib.ListN.{length}
-use Rattle.elements.specs.Refusals.{numberOf}
 use Rattle.element_frames.specs.Frame.{frameOf, countFrame}
 use Rattle.element_frames.specs.Hex.{lineOf}
-use Rattle.whole.specs.Given.{Given, bytes, refused, fitting, stored}
+use Rattle.whole.specs.Given.{Due, text, denied}
 use Rattle.whole.specs.Labels.{Label}
 use Rattle.whole.specs.Trace.{Outcome, listed, refusal-of, outcome, labelsIn, lead}
 use Rattle.grammar.specs.Epl.{epl}
 use Rattle.walk.specs.Steps.{fresh, stateOf, traceOf}
 use Rattle.walk.specs.declared.state.WalkState.{WalkState}
-use Rattle.frames.specs.declared.listing.Listed.{Listed}
-use Rattle.frames.specs.declared.listing.Listed.the-variants.{Bytes, Refused}
 
 -- a label with its elements' frames
 abbrev pub FramedLabel : Type 0
@@ -37,29 +32,14 @@ listingOf (l ∷ ls) = labelLines l ++ listingOf ls
 abbrev pub outcomeOf : List ℕ → Outcome (List ℕ) Unit
 outcomeOf s = outcome epl (List ℕ) frameOf s (stateOf fresh)
 
-abbrev pub givenOf : Listed → Given
-givenOf (Bytes n) = bytes n
-givenOf (Refused k p) = refused (numberOf k) p
+-- the listing, or the walk's refusal
+abbrev pub listingDue : Outcome (List ℕ) Unit → Due
+listingDue (listed ls) = text (listingOf ls)
+listingDue (refusal-of n p) = denied n p
 
--- how many bytes the listing has, or the refusal
-abbrev pub neededOf : Outcome (List ℕ) Unit → Given
-neededOf (listed ls) = bytes (length (listingOf ls))
-neededOf (refusal-of n p) = refused n p
-
--- the walk's refusal, or 15 where the listing is longer than the m bytes of the buffer
-abbrev pub listedOf : Outcome (List ℕ) Unit → ℕ → Given
-listedOf (listed ls) m = fitting (listingOf ls) m
-listedOf (refusal-of n p) m = refused n p
-
--- the buffer afterwards
-abbrev pub bufferOf : Outcome (List ℕ) Unit → List ℕ → List ℕ
-bufferOf (listed ls) l = stored (listingOf ls) l
-bufferOf (refusal-of n p) l = l
-
--- what `list` does: l becomes n, o being what the walk lists
-pub record Lists (n l : List ℕ) (o : Outcome (List ℕ) Unit) (r : Listed) : Type 0 where
-  pub answer : givenOf r ≡ listedOf o (length l)
-  pub buffer : n ≡ bufferOf o l
+-- what is due to `list`
+abbrev pub dueOf : List ℕ → Due
+dueOf s = listingDue (outcomeOf s)
 
 -- ---- the parts
 -- the frames of the elements that the walk from w begins with

@@ -1,32 +1,45 @@
--- What the listing program prints (01, "Frames").
+-- What the programs print (01, "Frames").
+use mathlib.Core.Path.{_≡_}
 use mathlib.Core.Bool.{cond}
 use mathlib.Core.List.{List, []}
 use Prim.Native.Nat.{ℕ}
 use lib.Dec.{ltb}
 use lib.ListN.{length}
+use Rattle.text.specs.Wrote.{Wrote}
 use Rattle.element_frames.specs.Frame.{refusalFrame}
 use Rattle.element_frames.specs.Hex.{lineOf}
-use Rattle.whole.specs.Trace.{Outcome, listed, refusal-of}
-use Rattle.frames.specs.Listing.{listingOf, outcomeOf}
+use Rattle.whole.specs.Given.{Given, bytes, refused, Due, text, denied, within, fitting}
+use Rattle.frames.specs.Listing.{dueOf}
 
 -- "A refusal prints only ff, its number (1 byte), its place"
 abbrev pub refusalLine : ℕ → ℕ → List ℕ
 refusalLine n p = lineOf (refusalFrame n p)
 
--- a text printed into a buffer of m bytes; 15 where it has no room
-abbrev pub printedIn : List ℕ → ℕ → List ℕ
-printedIn t m = cond (ltb m (length t)) (refusalLine 15 (length t)) t
+-- what is due, printed
+abbrev pub shownOf : Due → List ℕ
+shownOf (text t) = t
+shownOf (denied n p) = refusalLine n p
 
--- what a walk lists, printed so
-abbrev pub textOf : Outcome (List ℕ) Unit → ℕ → List ℕ
-textOf (listed ls) m = printedIn (listingOf ls) m
-textOf (refusal-of n p) m = refusalLine n p
+-- what a program prints that has read s, by way of a buffer of m bytes: "over 65,536 bytes: 14"; fewer than 13 bytes cannot hold a refusal
+unfoldable pub printed : List ℕ → Due → ℕ → List ℕ
+printed s d m = cond (ltb m 13) [] (shownOf (fitting (within 65536 s d) m))
 
--- "The listing program reads standard input (over 65,536 bytes: 14)"; a buffer of fewer than 13 bytes cannot hold a refusal
-unfoldable pub printedOf : List ℕ → ℕ → List ℕ
-printedOf s m = cond (ltb m 13) [] (cond (ltb 65536 (length s)) (refusalLine 14 0) (textOf (outcomeOf s) m))
+-- "The listing program reads standard input"
+abbrev pub printedOf : List ℕ → ℕ → List ℕ
+printedOf s m = printed s (dueOf s) m
 
--- what the walk lists, whatever the buffer
-abbrev pub shownOf : Outcome (List ℕ) Unit → List ℕ
-shownOf (listed ls) = listingOf ls
-shownOf (refusal-of n p) = refusalLine n p
+-- ---- the parts
+-- what is written over a buffer that a call has filled, by what the call gave back
+abbrev pub overwrites : Given → List ℕ
+overwrites (bytes k) = []
+overwrites (refused n p) = refusalLine n p
+
+-- how many bytes there are to print then
+abbrev pub lengthOf : Given → ℕ
+lengthOf (bytes k) = k
+lengthOf (refused n p) = length (refusalLine n p)
+
+-- l becomes n, and r bytes of it are to print
+pub record Prints (n l : List ℕ) (g : Given) (r : ℕ) : Type 0 where
+  pub wrote : Wrote n l 0 (overwrites g)
+  pub next : r ≡ lengthOf g

@@ -3,21 +3,18 @@ ghost use mathlib.Core.Path.{_≡_};
 ghost use Prim.Native.Nat.{_+_, _≤_};
 ghost use lib.ListN.{length};
 ghost use Rattle.text.specs.Wrote.{Put};
-ghost use Rattle.frames.specs.Listing.{linesOf, frontFrames, labelText, allText, givenOf, neededOf, outcomeOf, Lists};
+ghost use Rattle.whole.specs.Given.{needed, Fills};
+ghost use Rattle.grammar.specs.Filled.{givenOf};
+ghost use Rattle.frames.specs.Listing.{linesOf, frontFrames, labelText, allText, dueOf};
 use element_frames::frame::frame_len;
 use element_frames::frame::put_count;
 use element_frames::frame::put_frame;
+use elements::filled::Filled;
 use elements::refusal::Refusal;
 use walk::state::Step;
 use walk::state::WalkState;
 use walk::state::start;
 use walk::step::step;
-
-// A listing's length; or why there is none, and its place.
-pub enum Listed {
-    Bytes(usize),
-    Refused(Refusal, usize),
-}
 
 // The lines of the elements from st up to the first answer that is none.
 fn put_elements(input: &[u8], out: &mut [u8], at: usize, st: WalkState) -> usize
@@ -77,8 +74,8 @@ fn put_labels(input: &[u8], out: &mut [u8]) -> usize
 }
 
 // The length of the listing, or the refusal of the walk: one walk over the whole input, nothing written.
-pub fn measure(input: &[u8]) -> Listed
-    ensures { λ r. ⌜ givenOf r ≡ neededOf (outcomeOf (now (input .entry))) ⌝ }
+pub fn measure(input: &[u8]) -> Filled
+    ensures { λ r. ⌜ givenOf r ≡ needed (dueOf (now (input .entry))) ⌝ }
 {
     let mut here = start();
     let mut total = 0;
@@ -100,26 +97,26 @@ pub fn measure(input: &[u8]) -> Listed
                 here = next;
             }
             Step::End(next) => {
-                return Listed::Bytes(total);
+                return Filled::Bytes(total);
             }
             Step::Refused(k, p, next) => {
-                return Listed::Refused(k, p);
+                return Filled::Refused(k, p);
             }
         }
     }
 }
 
 // All labels' frames from the start of out, or a refusal: the walk's, or 15 with the length needed.
-pub fn list(input: &[u8], out: &mut [u8]) -> Listed
-    ensures { λ r. ⌜ Lists (now (out .exit)) (now (out .entry)) (outcomeOf (now (input .entry))) r ⌝ }
+pub fn list(input: &[u8], out: &mut [u8]) -> Filled
+    ensures { λ r. ⌜ Fills (now (out .exit)) (now (out .entry)) (dueOf (now (input .entry))) (givenOf r) ⌝ }
 {
     match measure(input) {
-        Listed::Refused(k, p) => Listed::Refused(k, p),
-        Listed::Bytes(n) => {
+        Filled::Refused(k, p) => Filled::Refused(k, p),
+        Filled::Bytes(n) => {
             if out.len() < n {
-                return Listed::Refused(Refusal::OutputTooShort, n);
+                return Filled::Refused(Refusal::OutputTooShort, n);
             }
-            Listed::Bytes(put_labels(input, out))
+            Filled::Bytes(put_labels(input, out))
         }
     }
 }

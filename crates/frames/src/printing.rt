@@ -1,13 +1,27 @@
-// What the listing program prints for an input.
+// What the programs print for an input.
+ghost use Prim.Native.Nat.{_≤_};
 ghost use lib.ListN.{length};
 ghost use Rattle.text.specs.Wrote.{Put};
-ghost use Rattle.frames.specs.Printing.{printedOf};
-use crate::listing::Listed;
+ghost use Rattle.grammar.specs.Filled.{givenOf};
+ghost use Rattle.frames.specs.Printing.{Prints, printedOf};
 use crate::listing::list;
 use element_frames::frame::put_refusal;
+use elements::filled::Filled;
+use elements::refusal::Refusal;
 
-// The longest input of the program.
+// The longest input of a program.
 pub const PROGRAM_MAX: usize = 65536;
+
+// How many bytes of out there are to print when a call has filled it and answered a; a refusal is written as its one frame ff, from the start.
+pub fn put_answer(out: &mut [u8], a: Filled) -> usize
+    requires { ⌜ 13 ≤ length (now out) ⌝ }
+    ensures { λ r. ⌜ Prints (now (out .exit)) (now (out .entry)) (givenOf a) r ⌝ }
+{
+    match a {
+        Filled::Bytes(n) => n,
+        Filled::Refused(k, p) => put_refusal(out, 0, k.number(), p),
+    }
+}
 
 // The listing of input, or the one frame ff of a refusal, from the start of out; nothing where out cannot hold a refusal. Gives its length.
 pub fn print_listing(input: &[u8], out: &mut [u8]) -> usize
@@ -17,10 +31,8 @@ pub fn print_listing(input: &[u8], out: &mut [u8]) -> usize
         return 0;
     }
     if PROGRAM_MAX < input.len() {
-        return put_refusal(out, 0, 14, 0);
+        return put_answer(out, Filled::Refused(Refusal::InputTooLong, 0));
     }
-    match list(input, out) {
-        Listed::Bytes(n) => n,
-        Listed::Refused(k, p) => put_refusal(out, 0, k.number(), p),
-    }
+    let a = list(input, out);
+    put_answer(out, a)
 }

@@ -10,3 +10,5 @@ pub mod Epl
 pub mod Normal
 -- a line as a reader of one unit answers it
 pub mod Turn
+-- 01, "Who causes which number": the answer of a call that fills a lent buffer
+pub mod Filled

@@ -25,6 +25,7 @@ use Rattle.whole.proofs.DivisionLaws.{unique}
 use Rattle.whole.proofs.Whole.{whole}
 use Rattle.whole.proofs.Again.{normal-text}
 use Rattle.whole.proofs.TraceLaws.{reach-outcome}
+use Rattle.whole.proofs.GivenLaws.{fills-kept}
 use Rattle.grammar.specs.Epl.{origin, epl}
 use Rattle.grammar.proofs.FoundLaws.{reads}
 use Rattle.grammar.specs.Normal.{normal, blocks, normalised}
@@ -34,8 +35,6 @@ use Rattle.grammar.proofs.ReadingLaws.{ill-formed, well-formed-range}
 use Rattle.units.proofs.UnitLaws.{inside}
 use Rattle.walk.specs.Steps.{fresh, stateOf}
 use Rattle.frames.specs.Listing.{FramedLabel, outcomeOf}
-use Rattle.frames.proofs.PrintingLaws.{lists-kept}
-use Rattle.format.proofs.NormaliseLaws.{formats-kept}
 use Rattle.frames.proofs.Room.{length-listing-le, never-short}
 use Rattle.laddertick.specs.Claims.{Divides, Normalising, Demand3, Claims}
 use Rattle.laddertick.proofs.InsideLaws.{data-inside}
@@ -134,8 +133,7 @@ pub claims : Claims
 claims = record {
   demand1 = record {
     step-hands-back = λ s st st′ n p h. hands-back s st st′ n p h;
-    list-keeps = λ n l s k p w. lists-kept (outcomeOf s) n l k p w;
-    normalise-keeps = λ n l s k p w. formats-kept n l s k p w;
+    fill-keeps = λ n l d k p w. fills-kept d w;
     data-inside = data-inside;
     numbered = numbered-of;
   };

@@ -25,16 +25,15 @@ use Rattle.whole.specs.Step.{State, Answer, element, refused, step, longest}
 use Rattle.whole.specs.Reach.{Final, accepted, refusal, Reach, answered}
 use Rattle.whole.specs.Trace.{listed, refusal-of}
 use Rattle.whole.specs.Normal.{each}
+use Rattle.whole.specs.Given.{Due, Fills}
+use Rattle.whole.specs.Given as given
 use Rattle.grammar.specs.WellFormed.{wellFormed, faultOf}
 use Rattle.grammar.specs.Units.{EplUnit}
 use Rattle.grammar.specs.Epl.{origin, epl}
 use Rattle.grammar.specs.Normal.{blocks, normalised}
 use Rattle.walk.specs.Steps.{fresh, stateOf}
-use Rattle.frames.specs.Listing.{FramedLabel, listingOf, outcomeOf, Lists}
-use Rattle.frames.specs.declared.listing.Listed.the-variants as listed-as
+use Rattle.frames.specs.Listing.{FramedLabel, listingOf, outcomeOf, dueOf}
 use Rattle.frames.specs.Printing.{printedOf, shownOf}
-use Rattle.format.specs.Normalise.{Formats}
-use Rattle.format.specs.declared.normalise.Normalised.the-variants as normalised-as
 use Rattle.laddertick.specs.Starred.{Holds, table}
 
 -- "the string divides end to end into graphic blocks and command lines by 01's grammar with every position and size within signed 32 bits", and has these labels
@@ -74,7 +73,7 @@ pub record Demand3 (s : List ℕ) : Type 0 where
   -- of the earliest refused unit: at fault as it stands, or out of range
   pub earliest : (n p : ℕ) → final ≡ refusal n p → Fails epl (List ℕ) frameOf s 0 origin [] n p
   pub normalising : (ls : List FramedLabel) → Divides s ls → Normalising s ls
-  -- what `list` writes, by its contract (`Lists`, in the crate `frames`), is the listing of the division's labels, or that refusal
+  -- what `list` writes, by its contract (`Fills` with `dueOf`, in the crate `frames`), is the listing of the division's labels, or that refusal
   pub lists-division : (ls : List FramedLabel) → Divides s ls → outcomeOf s ≡ listed ls
   pub lists-refusal : (n p : ℕ) → final ≡ refusal n p → outcomeOf s ≡ refusal-of n p
 
@@ -83,10 +82,8 @@ pub record Demand3 (s : List ℕ) : Type 0 where
 pub record Demand1 : Type 0 where
   -- `step`, by its contract `answerOf r ≡ step epl s (stateOf st)`
   pub step-hands-back : (s : List ℕ) (st st′ : State LabelPosition) (n p : ℕ) → step epl s st ≡ refused n p st′ → st′ ≡ st
-  -- `list`, by its contract `Lists`
-  pub list-keeps : (n l s : List ℕ) (k : Refusal) (p : ℕ) → Lists n l (outcomeOf s) (listed-as.Refused k p) → n ≡ l
-  -- `normalise`, by its contract `Formats`
-  pub normalise-keeps : (n l s : List ℕ) (k : Refusal) (p : ℕ) → Formats n l s (normalised-as.Refused k p) → n ≡ l
+  -- `list`, `normalise` and `laddertick_data`, by their contract `Fills`: whatever is due, where a refusal is given back the buffer l is as it came
+  pub fill-keeps : (n l : List ℕ) (d : Due) (k p : ℕ) → Fills n l d (given.refused k p) → n ≡ l
   -- the data that a step answers lies within the input, so that a host which reads it stays inside what it lent
   pub data-inside : (s : List ℕ) (st st′ : State LabelPosition) (e : LabelElement) → step epl s st ≡ element e st′ → In (length s) e
   pub numbered : (k : Refusal) → (1 ≤ numberOf k) × (numberOf k ≤ 16)
@@ -113,4 +110,4 @@ pub record Claims : Type 0 where
   pub room : (s : List ℕ) (ls : List FramedLabel) → outcomeOf s ≡ listed ls → length (listingOf ls) ≤ 16 * length s
   -- n + n/6 + 1 bytes have room for the normalised text of any string of n bytes, also of one that is refused
   pub normalised-room : (s : List ℕ) → length (normalised s) ≤ length s + length s / 6 + 1
-  pub never-15 : (s : List ℕ) → length s ≤ 65536 → printedOf s 1048576 ≡ shownOf (outcomeOf s)
+  pub never-15 : (s : List ℕ) → length s ≤ 65536 → printedOf s 1048576 ≡ shownOf (dueOf s)

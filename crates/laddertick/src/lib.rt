@@ -1,7 +1,6 @@
 // The host's entry points: a walk a step at a time, the listing of a file, and its normalised text. What is claimed of them stands in specs/Claims.antt.
-pub use format::normalise::Normalised;
+pub use elements::filled::Filled;
 pub use format::normalise::normalise;
-pub use frames::listing::Listed;
 pub use frames::listing::list;
 pub use walk::state::Printed;
 pub use walk::state::Step;

@@ -1,9 +1,10 @@
 // The static library that hosts link. Nothing is asked of a caller but that what it lends is its own for the call.
 ghost use mathlib.Core.Path.{_≡_};
+ghost use Rattle.whole.specs.Given.{Fills};
 ghost use Rattle.whole.specs.Step as theory;
 ghost use Rattle.grammar.specs.Epl.{epl};
 ghost use Rattle.flat.specs.Decoding as decoding;
-ghost use Rattle.flat.specs.Written.{Flat};
+ghost use Rattle.flat.specs.Written.{givenFlat};
 ghost use Rattle.format.specs.Normalise as normalise;
 ghost use Rattle.frames.specs.Listing as listing;
 ghost use Rattle.laddertick_c.specs.Steps.{freshWalk, stateOfWalk, flatOf};
@@ -13,8 +14,7 @@ pub mod written;
 
 use crate::steps::flat_step;
 use crate::steps::state_of;
-use crate::written::of_listed;
-use crate::written::of_normalised;
+use crate::written::of_filled;
 use elements::data_span::DataSpan;
 use flat::answer::Answer;
 use flat::answer::Walk;
@@ -48,7 +48,7 @@ pub extern "C" fn laddertick_step(input: &[u8], walk: Walk) -> Answer
 // What the len bytes at start are decoded to, as far as the input goes, from the start of out; or a refusal that leaves out as it came.
 #[no_mangle]
 pub extern "C" fn laddertick_data(input: &[u8], start: usize, len: usize, out: &mut [u8]) -> Written
-    ensures { λ r. ⌜ Flat (now (out .exit)) (now (out .entry)) (decoding.answerOf (now (input .entry)) (record { start = start; len = len })) (decoding.bufferOf (now (input .entry)) (record { start = start; len = len })) r ⌝ }
+    ensures { λ r. ⌜ Fills (now (out .exit)) (now (out .entry)) (decoding.dueOf (now (input .entry)) (record { start = start; len = len })) (givenFlat r) ⌝ }
 {
     decode(input, DataSpan { start, len }, out)
 }
@@ -56,15 +56,15 @@ pub extern "C" fn laddertick_data(input: &[u8], start: usize, len: usize, out: &
 // The listing of input's labels from the start of out, or a refusal that leaves out as it came.
 #[no_mangle]
 pub extern "C" fn laddertick_list(input: &[u8], out: &mut [u8]) -> Written
-    ensures { λ r. ⌜ Flat (now (out .exit)) (now (out .entry)) (listing.listedOf (listing.outcomeOf (now (input .entry)))) (listing.bufferOf (listing.outcomeOf (now (input .entry)))) r ⌝ }
+    ensures { λ r. ⌜ Fills (now (out .exit)) (now (out .entry)) (listing.dueOf (now (input .entry))) (givenFlat r) ⌝ }
 {
-    of_listed(list(input, out))
+    of_filled(list(input, out))
 }
 
 // The normalised text of input from the start of out, or a refusal that leaves out as it came.
 #[no_mangle]
 pub extern "C" fn laddertick_normalise(input: &[u8], out: &mut [u8]) -> Written
-    ensures { λ r. ⌜ Flat (now (out .exit)) (now (out .entry)) (normalise.answerOf (now (input .entry))) (normalise.bufferOf (now (input .entry))) r ⌝ }
+    ensures { λ r. ⌜ Fills (now (out .exit)) (now (out .entry)) (normalise.dueOf (now (input .entry))) (givenFlat r) ⌝ }
 {
-    of_normalised(normalise(input, out))
+    of_filled(normalise(input, out))
 }

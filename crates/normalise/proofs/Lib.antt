@@ -1,2 +1,2 @@
--- what is printed, by what `normalise` answered
+-- 15 is never printed
 pub mod PrintedLaws

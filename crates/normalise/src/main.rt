@@ -3,9 +3,11 @@ ghost use lib.ListN.{length};
 ghost use Rattle.text.specs.Wrote.{Put};
 ghost use Rattle.normalise.specs.Printed.{printedOf};
 use element_frames::data::part;
-use element_frames::frame::put_refusal;
 use elements::data_span::DataSpan;
-use laddertick::Normalised;
+use elements::refusal::Refusal;
+use frames::printing::PROGRAM_MAX;
+use frames::printing::put_answer;
+use laddertick::Filled;
 use laddertick::normalise;
 
 fn main() {
@@ -32,11 +34,9 @@ fn print_normalised(input: &[u8], out: &mut [u8]) -> usize
     if out.len() < 13 {
         return 0;
     }
-    if 65536 < input.len() {
-        return put_refusal(out, 0, 14, 0);
+    if PROGRAM_MAX < input.len() {
+        return put_answer(out, Filled::Refused(Refusal::InputTooLong, 0));
     }
-    match normalise(input, out) {
-        Normalised::Bytes(n) => n,
-        Normalised::Refused(k, p) => put_refusal(out, 0, k.number(), p),
-    }
+    let a = normalise(input, out);
+    put_answer(out, a)
 }

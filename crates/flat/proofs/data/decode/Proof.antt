@@ -1,17 +1,33 @@
 -- `flat::data::decode` meets its contract: 14, 15, or the bytes are written. Assumes nothing.
-use mathlib.Core.Path.{ap}
+use mathlib.Core.Path.{_≡_, ap, _∙_}
 use mathlib.Core.List.{List}
 use Prim.Native.Nat.{ℕ}
 use native.Mathlib.Omega.{arith}
 use lib.ListN.{length}
+use lib.Seq.{sets}
 use Rattle.text.specs.Utf8.{decode}
-use Rattle.flat.proofs.DecodingLaws.{measured, decoding-long, decoding-short, decoding-written}
+use Rattle.element_frames.specs.Frame.{part}
+use Rattle.whole.specs.Given.{text}
+use Rattle.whole.specs.Step.{longest}
+use Rattle.whole.proofs.GivenLaws.{within-long, within-short, fills-denied, fills-short, fills-written}
+use Rattle.flat.specs.Decoding.{dueOf}
+use Rattle.flat.proofs.DecodingLaws.{measured}
 use borrow.Author.Needs.{needs}
 use Rattle.flat.proofs.data.decode.Statement.{statement}
 use Rattle.flat.proofs.data.decode.Tie as tie
 
+-- what is due where the input is within its limit, and how long it is
+module _ (n : tie.After-decoded-len) where
+  due-is : let a = n .before .before .before .before .before .args in dueOf (a .input .now) (a .d) ≡ text (decode (part (a .input .now) (a .d)))
+  due-is = let a = n .before .before .before .before .before .args in within-short longest (a .input .now) (text (decode (part (a .input .now) (a .d)))) (n .before .before .if1 .left)
+
+  long-is : let a = n .before .before .before .before .before .args in n .decoded-len .result ≡ length (decode (part (a .input .now) (a .d)))
+  long-is = let a = n .before .before .before .before .before .args in measured (a .input .now) (a .d) _ (n .decoded-len .result) (n .before .before .if1 .left) (n .before .part .ensures) (n .decoded-len .ensures)
+
 returns : tie.Need-returns
-returns c = let a = c .before .before .before .args in decoding-long (a .input .now) (a .out .now) (a .d) (c .if1 .taken)
+returns c =
+    let a = c .before .before .before .args in
+    fills-denied (a .out .now) (within-long longest (a .input .now) (text (decode (part (a .input .now) (a .d)))) (c .if1 .taken))
 
 part-requires : tie.Need-part-requires
 part-requires c κs = search needs
@@ -20,18 +36,10 @@ decoded-len-requires : tie.Need-decoded-len-requires
 decoded-len-requires c κs = search needs
 
 returns-2 : tie.Need-returns-2
-returns-2 c =
-    let n = c .before in
-    let p = n .before in
-    let a = p .before .before .before .before .args in
-    decoding-short (a .input .now) (a .out .now) (a .d) _ (n .decoded-len .result) (p .before .if1 .left) (p .part .ensures) (n .decoded-len .ensures) (c .if2 .taken)
+returns-2 c = let n = c .before in fills-short (n .before .before .before .before .before .args .out .now) (due-is n) (long-is n) (c .if2 .taken)
 
 write-decoded-requires : tie.Need-write-decoded-requires
-write-decoded-requires c κs =
-    let n = c .before .before in
-    let p = n .before in
-    let a = p .before .before .before .before .args in
-    omega (arith, measured (a .input .now) (a .out .now) (a .d) _ (n .decoded-len .result) (p .before .if1 .left) (p .part .ensures) (n .decoded-len .ensures), ap (λ (x : List ℕ). length (decode x)) (p .part .ensures))
+write-decoded-requires c κs = let n = c .before .before in omega (arith, long-is n, ap (λ (x : List ℕ). length (decode x)) (n .before .part .ensures))
 
 same-length : tie.Need-same-length
 same-length c = search needs
@@ -40,9 +48,8 @@ returns-3 : tie.Need-returns-3
 returns-3 c =
     let w = c .before .before in
     let n = w .before .before .before in
-    let p = n .before in
-    let a = p .before .before .before .before .args in
-    decoding-written (a .input .now) (a .out .now) (a .d) _ (n .decoded-len .result) (p .before .if1 .left) (p .part .ensures) (n .decoded-len .ensures) _ (w .before .before .if2 .left) (w .write-decoded .ensures)
+    let a = n .before .before .before .before .before .args in
+    fills-written (a .out .now) (due-is n) (long-is n) (w .before .before .if2 .left) (w .write-decoded .ensures .is ∙ ap (λ (x : List ℕ). sets (a .out .now) 0 (decode x)) (n .before .part .ensures))
 
 pub decode-spec : {M : Type 1} → statement M
 decode-spec =

@@ -1,13 +1,14 @@
 -- `format::normalise::normalise` meets its contract: 14, 15, or the text is written, which `length-normalised-le` or the measure says has room.
 -- Assumes nothing.
-use mathlib.Core.Path.{refl}
 use mathlib.Core.Logic.{⊎-elim}
 use Prim.Native.Nat.{_≤_}
 use native.Mathlib.Omega.{arith}
 use lib.ListN.{length}
+use Rattle.whole.specs.Given.{text}
+use Rattle.whole.specs.Step.{longest}
+use Rattle.whole.proofs.GivenLaws.{within-long, within-short, fills-denied, fills-short, fills-written}
 use Rattle.grammar.specs.Normal.{normalised}
 use Rattle.grammar.proofs.NormalLaws.{length-normalised-le}
-use Rattle.format.proofs.NormaliseLaws.{answer-long, answer-short, answer-written}
 use borrow.Author.Needs.{needs}
 use Rattle.format.proofs.normalise.normalise.Statement.{statement}
 use Rattle.format.proofs.normalise.normalise.Tie as tie
@@ -23,7 +24,9 @@ fits c =
     (c .if2 .came)
 
 returns : tie.Need-returns
-returns c = let a = c .before .before .before .args in answer-long (a .input .now) (a .out .now) (c .if1 .taken)
+returns c =
+    let a = c .before .before .before .args in
+    fills-denied (a .out .now) (within-long longest (a .input .now) (text (normalised (a .input .now))) (c .if1 .taken))
 
 room-for-requires : tie.Need-room-for-requires
 room-for-requires c κs = search needs
@@ -36,7 +39,7 @@ returns-2 c =
     let m = c .before in
     let e = m .before .before .before in
     let a = e .before .before .before .args in
-    answer-short (a .input .now) (a .out .now) (m .measure .result) (e .if1 .left) (m .measure .ensures) (c .if3 .taken)
+    fills-short (a .out .now) (within-short longest (a .input .now) (text (normalised (a .input .now))) (e .if1 .left)) (m .measure .ensures) (c .if3 .taken)
 
 put-chunks-requires : tie.Need-put-chunks-requires
 put-chunks-requires c κs = fits (c .before)
@@ -50,7 +53,8 @@ returns-3 c =
     let j = p .before .before in
     let e = j .before .before in
     let a = e .before .before .before .args in
-    answer-written (a .input .now) (a .out .now) (length (normalised (a .input .now))) (e .if1 .left) refl _ (p .put-chunks .result) (fits j) (p .put-chunks .ensures)
+    let w = p .put-chunks .ensures in
+    fills-written (a .out .now) (within-short longest (a .input .now) (text (normalised (a .input .now))) (e .if1 .left)) (omega (arith, w .next)) (omega (arith, w .next, fits j)) (w .wrote .is)
 
 pub normalise-spec : {M : Type 1} → statement M
 normalise-spec =

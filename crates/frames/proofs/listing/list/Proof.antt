@@ -1,11 +1,20 @@
--- `frames::listing::list` meets its contract: the first pass says what the walk lists, and only what fits is written. Assumes nothing.
-use mathlib.Core.Path.{sym, ap, _∙_}
+-- `frames::listing::list` meets its contract: the first pass says what is due, and only what fits is written. Assumes nothing.
+use mathlib.Core.Path.{_≡_, sym, ap, _∙_}
 use native.Mathlib.Omega.{arith}
-use Rattle.frames.specs.Listing.{outcomeOf, givenOf}
-use Rattle.frames.proofs.ListingLaws.{list-refused, list-short, list-room, list-written}
+use Rattle.elements.specs.declared.filled.Filled.{Filled}
+use Rattle.elements.specs.declared.filled.Filled.the-variants.{Bytes, Refused}
+use Rattle.whole.specs.Given.{needed}
+use Rattle.whole.proofs.GivenLaws.{needed-denied, fills-denied, fills-short, fills-written}
+use Rattle.grammar.specs.Filled.{givenOf}
+use Rattle.frames.specs.Listing.{dueOf}
+use Rattle.frames.proofs.ListingLaws.{due-text, due-length}
 use borrow.Author.Needs.{needs}
 use Rattle.frames.proofs.listing.list.Statement.{statement}
 use Rattle.frames.proofs.listing.list.Tie as tie
+
+-- what was measured, by the answer that was matched
+told : (d : tie.After-measure) (q : Filled) → d .measure .result ≡ q → givenOf q ≡ needed (dueOf (d .before .before .before .args .input .now))
+told d q e = ap givenOf (sym e) ∙ d .measure .ensures
 
 measure-requires : tie.Need-measure-requires
 measure-requires c κs = search needs
@@ -17,19 +26,38 @@ enum-known-n : tie.Need-enum-known-n
 enum-known-n c = search needs
 
 returns : tie.Need-returns
-returns c = let a = c .before .before .before .before .before .before .before .args in list-short (outcomeOf (a .input .now)) (a .out .now) (c .before .before .n .given .0 .0) (ap givenOf (sym (c .before .before .n .given .1)) ∙ c .before .before .before .before .measure .ensures) (c .if1 .taken)
+returns c =
+    let m = c .before .before .before .before in
+    let a = m .before .before .before .args in
+    let n = c .before .before .n .given in
+    let e = told m (Bytes (n .0 .0)) (n .1) in
+    fills-short (a .out .now) (due-text (a .input .now) (n .0 .0) e) (due-length (a .input .now) (n .0 .0) e) (c .if1 .taken)
 
 put-labels-requires : tie.Need-put-labels-requires
-put-labels-requires c κs = let a = c .before .before .before .before .before .before .before .before .args in list-room (a .input .now) (a .out .now) (c .before .before .before .n .given .0 .0) (ap givenOf (sym (c .before .before .before .n .given .1)) ∙ c .before .before .before .before .before .measure .ensures) (omega arith)
+put-labels-requires c κs =
+    let m = c .before .before .before .before .before in
+    let n = c .before .before .before .n .given in
+    omega (arith, due-length (m .before .before .before .args .input .now) (n .0 .0) (told m (Bytes (n .0 .0)) (n .1)), c .before .if1 .left)
 
 returns-2 : tie.Need-returns-2
-returns-2 c = let a = c .before .before .before .before .before .before .args in list-refused (outcomeOf (a .input .now)) (a .out .now) (c .before .k .given .0 .0) (c .before .k .given .0 .1 .0) (ap givenOf (sym (c .before .k .given .1)) ∙ c .before .before .before .measure .ensures)
+returns-2 c =
+    let m = c .before .before .before in
+    let a = m .before .before .before .args in
+    let k = c .before .k .given in
+    fills-denied (a .out .now) (needed-denied (dueOf (a .input .now)) (told m (Refused (k .0 .0) (k .0 .1 .0)) (k .1)))
 
 same-length : tie.Need-same-length
 same-length c = search needs
 
 returns-3 : tie.Need-returns-3
-returns-3 c = let a = c .before .before .before .before .before .before .before .before .before .before .before .args in list-written (a .input .now) (a .out .now) (c .before .before .before .before .before .before .n .given .0 .0) (ap givenOf (sym (c .before .before .before .before .before .before .n .given .1)) ∙ c .before .before .before .before .before .before .before .before .measure .ensures) _ (c .before .before .put-labels .result) (omega arith) (c .before .before .put-labels .ensures)
+returns-3 c =
+    let p = c .before .before in
+    let m = p .before .before .before .before .before .before in
+    let a = m .before .before .before .args in
+    let n = p .before .before .before .before .n .given in
+    let e = told m (Bytes (n .0 .0)) (n .1) in
+    let w = p .put-labels .ensures in
+    fills-written (a .out .now) (due-text (a .input .now) (n .0 .0) e) (omega (arith, w .next)) (omega (arith, w .next, due-length (a .input .now) (n .0 .0) e, p .before .before .if1 .left)) (w .wrote .is)
 
 pub list-spec : {M : Type 1} → statement M
 list-spec =

@@ -1,8 +1,8 @@
--- `laddertick_c::written::of_normalised` meets its contract: no refusal has the number 0. Assumes nothing.
+-- `laddertick_c::written::of_filled` meets its contract: no refusal has the number 0. Assumes nothing.
 use Rattle.laddertick_c.proofs.FlatLaws.{flat-refusal}
 use borrow.Author.Needs.{needs}
-use Rattle.laddertick_c.proofs.written.of_normalised.Statement.{statement}
-use Rattle.laddertick_c.proofs.written.of_normalised.Tie as tie
+use Rattle.laddertick_c.proofs.written.of_filled.Statement.{statement}
+use Rattle.laddertick_c.proofs.written.of_filled.Tie as tie
 
 enum-known-a : tie.Need-enum-known-a
 enum-known-a c = search needs
@@ -22,13 +22,5 @@ returns c = rw (c .before .a .given .1)
 returns-2 : tie.Need-returns-2
 returns-2 c = rw (c .number .ensures, c .before .before .a2 .given .1) (flat-refusal (c .before .before .a2 .given .0 .0) (c .before .before .a2 .given .0 .1 .0))
 
-pub of-normalised-spec : {M : Type 1} → statement M
-of-normalised-spec =
-    tie.close
-    (tie.spec
-    enum-known-a
-    enum-known-a-2
-    number-requires
-    cast-t7
-    returns
-    returns-2)
+pub of-filled-spec : {M : Type 1} → statement M
+of-filled-spec = tie.close (tie.spec enum-known-a enum-known-a-2 number-requires cast-t7 returns returns-2)
