@@ -2,3 +2,5 @@
 pub mod Refusals
 -- 01, "Forms that change": where an element's data lies
 pub mod Spans
+-- 01, "For demand 3": the fresh state
+pub mod Walk

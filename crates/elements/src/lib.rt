@@ -1,4 +1,4 @@
-// The records of src/elements that frames carry, by value, under the names of the Rust; refusals, and the answer of a call that fills a buffer. Data only.
+// The records of src/elements that frames carry, by value, under the names of the Rust; refusals; a walk's state, and the answer of a call that fills a buffer.
 pub mod barcode_128;
 pub mod barcode_2of5;
 pub mod barcode_39;
@@ -23,3 +23,4 @@ pub mod line_color;
 pub mod maxicode;
 pub mod refusal;
 pub mod text_field;
+pub mod walk_state;

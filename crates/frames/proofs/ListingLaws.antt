@@ -27,11 +27,12 @@ use Rattle.whole.specs.Trace.{Trace, stops, refuses, yields, clears, prints, en
 use Rattle.whole.proofs.TraceLaws.{labels-after, trace-by, goes-by}
 use Rattle.grammar.specs.Epl.{epl}
 use Rattle.grammar.proofs.FoundLaws.{reads}
-use Rattle.walk.specs.Steps.{stateOf, answerOf, traceOf, fresh}
-use Rattle.walk.specs.declared.state.WalkState.{WalkState}
-use Rattle.walk.specs.declared.state.Step.{Step}
-use Rattle.walk.specs.declared.state.Step.the-variants.{Element, Clear, Print, End, Refused}
-use Rattle.walk.proofs.state.Step.{enum}
+use Rattle.elements.specs.Walk.{fresh}
+use Rattle.walk.specs.Steps.{stateOf, answerOf, traceOf}
+use Rattle.elements.specs.declared.walk_state.WalkState.{WalkState}
+use Rattle.walk.specs.declared.answer.Step.{Step}
+use Rattle.walk.specs.declared.answer.Step.the-variants.{Element, Clear, Print, End, Refused}
+use Rattle.walk.proofs.answer.Step.{enum}
 use Rattle.frames.specs.Listing.{FramedLabel, linesOf, labelLines, listingOf, listingDue, dueOf, frontFrames, textFrom}
 
 -- ---- the length, as the first pass counts it: of the labels so far, and of what is pending

@@ -31,7 +31,8 @@ use Rattle.grammar.proofs.FoundLaws.{reads}
 use Rattle.grammar.proofs.BlockLaws.{block-length}
 use Rattle.grammar.proofs.SpanLaws.{spans-shifted, act-yields}
 use Rattle.grammar.proofs.LengthLaws.{Long, line-long}
-use Rattle.walk.specs.Steps.{stateOf, fresh, traceOf}
+use Rattle.elements.specs.Walk.{fresh}
+use Rattle.walk.specs.Steps.{stateOf, traceOf}
 use Rattle.frames.specs.Listing.{FramedLabel, linesOf, labelLines, listingOf, outcomeOf, listingDue, dueOf}
 use Rattle.frames.specs.Printing.{shownOf, printedOf}
 use Rattle.frames.specs.Printing as printing

@@ -7,8 +7,9 @@ use Rattle.whole.specs.Given.{Due, text, denied}
 use Rattle.whole.specs.Labels.{Label}
 use Rattle.whole.specs.Trace.{Outcome, listed, refusal-of, outcome, labelsIn, lead}
 use Rattle.grammar.specs.Epl.{epl}
-use Rattle.walk.specs.Steps.{fresh, stateOf, traceOf}
-use Rattle.walk.specs.declared.state.WalkState.{WalkState}
+use Rattle.elements.specs.Walk.{fresh}
+use Rattle.walk.specs.Steps.{stateOf, traceOf}
+use Rattle.elements.specs.declared.walk_state.WalkState.{WalkState}
 
 -- a label with its elements' frames
 abbrev pub FramedLabel : Type 0

@@ -11,9 +11,9 @@ use element_frames::frame::put_count;
 use element_frames::frame::put_frame;
 use elements::filled::Filled;
 use elements::refusal::Refusal;
-use walk::state::Step;
-use walk::state::WalkState;
-use walk::state::start;
+use elements::walk_state::WalkState;
+use elements::walk_state::start;
+use walk::answer::Step;
 use walk::step::step;
 
 // The lines of the elements from st up to the first answer that is none.

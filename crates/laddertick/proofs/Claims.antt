@@ -33,7 +33,8 @@ use Rattle.grammar.proofs.NormalLaws.{length-normalised-le}
 use Rattle.grammar.proofs.Normalises.{normalises}
 use Rattle.grammar.proofs.ReadingLaws.{ill-formed, well-formed-range}
 use Rattle.units.proofs.UnitLaws.{inside}
-use Rattle.walk.specs.Steps.{fresh, stateOf}
+use Rattle.elements.specs.Walk.{fresh}
+use Rattle.walk.specs.Steps.{stateOf}
 use Rattle.frames.specs.Listing.{FramedLabel, outcomeOf}
 use Rattle.frames.proofs.Room.{length-listing-le, never-short}
 use Rattle.laddertick.specs.Claims.{Divides, Normalising, Demand3, Claims}

@@ -31,7 +31,8 @@ use Rattle.grammar.specs.WellFormed.{wellFormed, faultOf}
 use Rattle.grammar.specs.Units.{EplUnit}
 use Rattle.grammar.specs.Epl.{origin, epl}
 use Rattle.grammar.specs.Normal.{blocks, normalised}
-use Rattle.walk.specs.Steps.{fresh, stateOf}
+use Rattle.elements.specs.Walk.{fresh}
+use Rattle.walk.specs.Steps.{stateOf}
 use Rattle.frames.specs.Listing.{FramedLabel, listingOf, outcomeOf, dueOf}
 use Rattle.frames.specs.Printing.{printedOf, shownOf}
 use Rattle.laddertick.specs.Starred.{Holds, table}

@@ -18,6 +18,7 @@ use Rattle.whole.specs.Step.{State, state, Answer, element, cleared, printed, e
 use Rattle.whole.specs.Trace.{left}
 use Rattle.grammar.specs.Epl.{origin, epl}
 use Rattle.grammar.specs.Normal.{normalised}
+use Rattle.elements.specs.Walk as walk
 use Rattle.walk.specs.Steps as steps
 
 abbrev pub EplState : Type 0
@@ -27,7 +28,7 @@ abbrev pub EplAnswer : Type 0
 EplAnswer = Answer LabelPosition LabelElement Unit
 
 abbrev pub fresh : EplState
-fresh = steps.stateOf steps.fresh
+fresh = steps.stateOf walk.fresh
 
 -- an answer, and behind it those from the state that it returned; the end and a refusal are the last
 abbrev pub onward : (EplState → List EplAnswer) → EplAnswer → List EplAnswer

@@ -2,7 +2,8 @@
 use Rattle.elements.specs.declared.label_element.LabelElement.{LabelElement}
 use Rattle.elements.specs.declared.label_position.LabelPosition.{LabelPosition}
 use Rattle.whole.specs.Step.{State, Answer, element, cleared, printed, ended, refused}
-use Rattle.walk.specs.Steps.{fresh, stateOf}
+use Rattle.elements.specs.Walk.{fresh}
+use Rattle.walk.specs.Steps.{stateOf}
 use Rattle.flat.specs.Flat.{event, flatElement}
 use Rattle.flat.specs.declared.answer.Answer as flat
 use Rattle.flat.specs.declared.answer.Walk.{Walk}

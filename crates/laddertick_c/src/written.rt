@@ -1,8 +1,8 @@
 // The answers of calls that fill a lent buffer, flat.
 ghost use mathlib.Core.Path.{_≡_};
 ghost use Rattle.grammar.specs.Filled.{givenOf};
-ghost use Rattle.flat.specs.Written.{givenFlat};
-use flat::written::Written;
+ghost use Rattle.decoding.specs.Written.{givenFlat};
+use decoding::written::Written;
 use laddertick::Filled;
 
 // What `list` or `normalise` answered.

@@ -3,17 +3,13 @@ use mathlib.Core.List.{List}
 use Prim.Native.Nat.{ℕ}
 use Rattle.elements.specs.declared.label_element.LabelElement.{LabelElement}
 use Rattle.elements.specs.declared.label_position.LabelPosition.{LabelPosition}
+use Rattle.elements.specs.declared.walk_state.WalkState.{WalkState}
 use Rattle.elements.specs.Refusals.{numberOf}
 use Rattle.whole.specs.Step.{State, Answer, element, cleared, printed, ended, refused}
 use Rattle.whole.specs.Trace.{Trace, trace}
-use Rattle.grammar.specs.Epl.{origin, epl}
-use Rattle.walk.specs.declared.state.WalkState.{WalkState}
-use Rattle.walk.specs.declared.state.Step.{Step}
-use Rattle.walk.specs.declared.state.Step.the-variants as step
-
--- "the fresh state is place 0, reference 0,0, pending count 0"
-abbrev pub fresh : WalkState
-fresh = record { place = 0; reference = origin; pending = 0 }
+use Rattle.grammar.specs.Epl.{epl}
+use Rattle.walk.specs.declared.answer.Step.{Step}
+use Rattle.walk.specs.declared.answer.Step.the-variants as step
 
 abbrev pub stateOf : WalkState → State LabelPosition
 stateOf w = record { place = w .place; ref = w .reference; pending = w .pending }

@@ -3,12 +3,12 @@ ghost use mathlib.Core.Path.{_≡_};
 ghost use Rattle.whole.specs.Step.{step, printing, ended, state};
 ghost use Rattle.grammar.specs.Epl.{epl};
 ghost use Rattle.walk.specs.Steps.{stateOf, answerOf};
-use crate::state::Printed;
-use crate::state::Step;
-use crate::state::WalkState;
+use crate::answer::Printed;
+use crate::answer::Step;
 use elements::label_position::LabelPosition;
 use elements::refusal::INPUT_MAX;
 use elements::refusal::Refusal;
+use elements::walk_state::WalkState;
 use units::unit::UnitReading;
 use units::unit::read_unit;
 

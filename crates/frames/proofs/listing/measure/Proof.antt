@@ -4,10 +4,11 @@ use mathlib.Core.Path.{_≡_, sym, ap, _∙_}
 use Prim.Native.Nat.{ℕ, _+_, _-_, _*_, _≤_}
 use native.Mathlib.Omega.{arith}
 use lib.ListN.{length}
-use Rattle.walk.specs.Steps.{traceOf, fresh}
-use Rattle.walk.specs.declared.state.Step.{Step}
-use Rattle.walk.specs.declared.state.Step.the-variants.{Element, Clear, Print, End, Refused}
-use Rattle.walk.specs.declared.state.WalkState.{WalkState}
+use Rattle.elements.specs.Walk.{fresh}
+use Rattle.walk.specs.Steps.{traceOf}
+use Rattle.walk.specs.declared.answer.Step.{Step}
+use Rattle.walk.specs.declared.answer.Step.the-variants.{Element, Clear, Print, End, Refused}
+use Rattle.elements.specs.declared.walk_state.WalkState.{WalkState}
 use Rattle.frames.proofs.ListingLaws.{onStep, Moved, moved-by, frame-len-le, frame-len-is, sizeFrom, size-is, size-by}
 use borrow.Author.Needs.{needs}
 use Rattle.frames.proofs.listing.measure.Statement.{statement}

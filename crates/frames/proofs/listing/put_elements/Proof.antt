@@ -10,8 +10,8 @@ use Rattle.whole.specs.Trace.{lead}
 use Rattle.grammar.specs.Epl.{epl}
 use Rattle.element_frames.specs.Frame.{frameOf}
 use Rattle.element_frames.specs.Hex.{lineOf}
-use Rattle.walk.specs.declared.state.Step.{Step}
-use Rattle.walk.specs.declared.state.Step.the-variants.{Element}
+use Rattle.walk.specs.declared.answer.Step.{Step}
+use Rattle.walk.specs.declared.answer.Step.the-variants.{Element}
 use Rattle.frames.specs.Listing.{linesOf, frontFrames}
 use Rattle.frames.proofs.ListingLaws.{lead-none, onStep, Moved, moved-by, lead-by}
 use borrow.Author.Needs.{needs}

@@ -10,9 +10,9 @@ use Rattle.whole.specs.Trace.{labelsIn, after}
 use Rattle.grammar.specs.Epl.{epl}
 use Rattle.element_frames.specs.Frame.{frameOf}
 use Rattle.walk.specs.Steps.{traceOf}
-use Rattle.walk.specs.declared.state.WalkState.{WalkState}
-use Rattle.walk.specs.declared.state.Step.{Step}
-use Rattle.walk.specs.declared.state.Step.the-variants.{Element, Clear, Print, End, Refused}
+use Rattle.elements.specs.declared.walk_state.WalkState.{WalkState}
+use Rattle.walk.specs.declared.answer.Step.{Step}
+use Rattle.walk.specs.declared.answer.Step.the-variants.{Element, Clear, Print, End, Refused}
 use Rattle.frames.specs.Listing.{listingOf, labelText, frontFrames, textFrom, allText}
 use Rattle.frames.proofs.ListingLaws.{onStep, Moved, moved-by, text-by, after-by}
 use borrow.Author.Needs.{needs}

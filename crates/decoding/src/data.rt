@@ -1,7 +1,7 @@
 // The bytes of decoded data, into a buffer that the host lends. They are measured before anything is written.
 ghost use Rattle.whole.specs.Given.{Fills};
-ghost use Rattle.flat.specs.Decoding.{dueOf};
-ghost use Rattle.flat.specs.Written.{givenFlat};
+ghost use Rattle.decoding.specs.Decoding.{dueOf};
+ghost use Rattle.decoding.specs.Written.{givenFlat};
 use crate::written::Written;
 use element_frames::data::part;
 use elements::data_span::DataSpan;

@@ -1,4 +1,4 @@
--- `flat::data::decode` meets its contract: 14, 15, or the bytes are written. Assumes nothing.
+-- `decoding::data::decode` meets its contract: 14, 15, or the bytes are written. Assumes nothing.
 use mathlib.Core.Path.{_≡_, ap, _∙_}
 use mathlib.Core.List.{List}
 use Prim.Native.Nat.{ℕ}
@@ -10,11 +10,11 @@ use Rattle.element_frames.specs.Frame.{part}
 use Rattle.whole.specs.Given.{text}
 use Rattle.whole.specs.Step.{longest}
 use Rattle.whole.proofs.GivenLaws.{within-long, within-short, fills-denied, fills-short, fills-written}
-use Rattle.flat.specs.Decoding.{dueOf}
-use Rattle.flat.proofs.DecodingLaws.{measured}
+use Rattle.decoding.specs.Decoding.{dueOf}
+use Rattle.decoding.proofs.DecodingLaws.{measured}
 use borrow.Author.Needs.{needs}
-use Rattle.flat.proofs.data.decode.Statement.{statement}
-use Rattle.flat.proofs.data.decode.Tie as tie
+use Rattle.decoding.proofs.data.decode.Statement.{statement}
+use Rattle.decoding.proofs.data.decode.Tie as tie
 
 -- what is due where the input is within its limit, and how long it is
 module _ (n : tie.After-decoded-len) where

@@ -2,7 +2,7 @@
 use mathlib.Core.Bool.{cond}
 use lib.Dec.{eqb}
 use Rattle.whole.specs.Given.{Given, bytes, refused}
-use Rattle.flat.specs.declared.written.Written.{Written}
+use Rattle.decoding.specs.declared.written.Written.{Written}
 
 -- number 0 is a length, any other a refusal
 abbrev pub givenFlat : Written → Given
