@@ -6,13 +6,13 @@ ghost use Rattle.text.specs.Wrote.{Put};
 ghost use Rattle.whole.specs.Given.{needed, Fills};
 ghost use Rattle.grammar.specs.Filled.{givenOf};
 ghost use Rattle.frames.specs.Listing.{linesOf, frontFrames, labelText, allText, dueOf};
-use element_frames::frame::frame_len;
-use element_frames::frame::put_count;
-use element_frames::frame::put_frame;
 use elements::filled::Filled;
 use elements::refusal::Refusal;
 use elements::walk_state::WalkState;
 use elements::walk_state::start;
+use frame_lines::frame::frame_len;
+use frame_lines::frame::put_count;
+use frame_lines::frame::put_frame;
 use walk::answer::Step;
 use walk::step::step;
 

@@ -5,9 +5,9 @@ ghost use Rattle.text.specs.Wrote.{Put};
 ghost use Rattle.grammar.specs.Filled.{givenOf};
 ghost use Rattle.frames.specs.Printing.{Prints, printedOf};
 use crate::listing::list;
-use element_frames::frame::put_refusal;
 use elements::filled::Filled;
 use elements::refusal::Refusal;
+use frame_lines::frame::put_refusal;
 
 // The longest input of a program.
 pub const PROGRAM_MAX: usize = 65536;
