@@ -54,32 +54,38 @@ enum Caches {
     Emptied,
 }
 
-/// A function over an input.
+/// A function over an input, timed over so many calls at once.
 struct Job<'a> {
     function: &'a Function,
     input: &'a Memory,
     out: Memory,
     caches: Caches,
+    calls: u32,
     best: Duration,
 }
 
 impl<'a> Job<'a> {
     fn new(function: &'a Function, input: &'a Memory) -> Job<'a> {
-        Job { function, input, out: room(input.len()), caches: Caches::Left, best: Duration::MAX }
+        Job { function, input, out: room(input.len()), caches: Caches::Left, calls: 1, best: Duration::MAX }
     }
 
-    fn begun_with(self, caches: Caches) -> Job<'a> {
-        Job { caches, ..self }
+    /// Timed over as many calls as make 16 MiB: what disturbs a long call then disturbs many short ones as much.
+    fn over_16_mib(self, caches: Caches) -> Job<'a> {
+        Job { caches, calls: (16 * MIB / self.input.len()) as u32, ..self }
     }
 
     fn call(&mut self) {
-        if let Caches::Emptied = self.caches {
-            self.input.leave_caches();
-            self.out.leave_caches();
+        let mut taken = Duration::ZERO;
+        for _ in 0..self.calls {
+            if let Caches::Emptied = self.caches {
+                self.input.leave_caches();
+                self.out.leave_caches();
+            }
+            let start = Instant::now();
+            black_box(measured(self.function, self.input, &mut self.out));
+            taken += start.elapsed();
         }
-        let start = Instant::now();
-        black_box(measured(self.function, self.input, &mut self.out));
-        self.best = self.best.min(start.elapsed());
+        self.best = self.best.min(taken / self.calls);
     }
 
     fn nanoseconds_a_byte(&self) -> f64 {
@@ -109,7 +115,7 @@ fn times_of<const N: usize>(seconds: u64, mut jobs: [Job; N]) -> [f64; N] {
 fn growth(function: &Function, kind: &Kind) -> [f64; 2] {
     let (small, large) = (made(kind, MIB), made(kind, 16 * MIB));
     [Caches::Emptied, Caches::Left].map(|caches| {
-        let [one, sixteen] = times_of(3, [&small, &large].map(|input| Job::new(function, input).begun_with(caches)));
+        let [one, sixteen] = times_of(5, [&small, &large].map(|input| Job::new(function, input).over_16_mib(caches)));
         16.0 * sixteen / one
     })
 }
