@@ -214,7 +214,7 @@ fn times() {
     target("normalise on graphics, times as fast as format_epl, at least 2", least(&texts[at]), |r| r >= 2.0);
     target("normalise on graphics, times the time of a copy, at most 3", beside, |r| r <= 3.0);
     target("16 MiB, times the time of 1 MiB, both from memory, at most 18", memory, |r| r <= 18.0);
-    println!("- 16 MiB, times the time of 1 MiB that a cache holds from call to call: {again:.1} at most, no target");
+    target("16 MiB, times the time of 1 MiB, both called again and again, at most 18", again, |r| r <= 18.0);
 }
 
 fn target(words: &str, figure: f64, met: impl Fn(f64) -> bool) {
