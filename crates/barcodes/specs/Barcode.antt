@@ -6,11 +6,11 @@ use lib.Dec.{eqb, ltb}
 use lib.IntN.{pos}
 use lib.ListN.{length}
 use Rattle.text.specs.Fields.{after, fields, same}
-use Rattle.elements.specs.declared.barcode_128.BarcodeMode.{BarcodeMode}
-use Rattle.elements.specs.declared.barcode_128.BarcodeMode.the-variants.{Ucc, Automatic, Ean}
-use Rattle.elements.specs.declared.data_span.DataSpan.{DataSpan}
-use Rattle.elements.specs.declared.label_element.LabelElement.the-variants as element
-use Rattle.elements.specs.declared.label_position.LabelPosition.{LabelPosition}
+use Rattle.elements.specs.declared.BarcodeMode.{BarcodeMode}
+use Rattle.elements.specs.declared.BarcodeMode.the-variants.{Ucc, Automatic, Ean}
+use Rattle.elements.specs.declared.DataSpan.{DataSpan}
+use Rattle.elements.specs.declared.LabelElement.the-variants as element
+use Rattle.elements.specs.declared.LabelPosition.{LabelPosition}
 use Rattle.elements.specs.declared.refusal.Refusal.the-variants as refusal
 use Rattle.barcodes.specs.declared.barcode.Bars.{Bars}
 use Rattle.barcodes.specs.declared.barcode.Barcode.{Barcode}

@@ -11,11 +11,11 @@ use lib.Signed.{mag, ltZ}
 use lib.ListN.{length, getD}
 use borrow.Author.Tests.{ltb-true, ltb-false, lt-ltb, le-leb, lt-leb, eq-eqb, ne-eqb, eqb-false}
 use Rattle.text.proofs.BoolLaws.{test}
-use Rattle.text.proofs.IntLaws.{mag-neg-pos}
-use Rattle.text.specs.Int.{eqZ, minZ}
-use Rattle.text.specs.Number.{numberSpelled}
-use Rattle.text.specs.declared.number.Number.{Number}
-use Rattle.text.specs.declared.number.Number.the-variants as number
+use Rattle.numbers.proofs.IntLaws.{mag-neg-pos}
+use Rattle.numbers.specs.Int.{eqZ, minZ}
+use Rattle.numbers.specs.Number.{numberSpelled}
+use Rattle.numbers.specs.declared.number.Number.{Number}
+use Rattle.numbers.specs.declared.number.Number.the-variants as number
 use Rattle.barcodes_2d.specs.Barcode2d.{letterOf, symbologyOf, between, aztecSize, isMode, pdf417ModuleWidth}
 use Rattle.barcodes_2d.specs.Options.{optionsOf, lastOf, clamped, clampedOr, lastClamped}
 use Rattle.barcodes_2d.specs.declared.barcode_2d.Symbology2d.the-variants.{Unlisted}

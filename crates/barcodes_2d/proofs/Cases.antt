@@ -5,8 +5,8 @@ use mathlib.Core.Bool.{true}
 use mathlib.Core.List.{List, [], _∷_}
 use Prim.Native.Nat.{ℕ}
 use lib.IntN.{pos, negsuc}
-use Rattle.text.specs.Number.{numberSpelled}
-use Rattle.elements.specs.declared.barcode_qr.QrErrorCorrectionLevel.the-variants as level
+use Rattle.numbers.specs.Number.{numberSpelled}
+use Rattle.elements.specs.declared.QrErrorCorrectionLevel.the-variants as level
 use Rattle.barcodes_2d.specs.Barcode2d.{aztecSize, aztecOf, datamatrixOf, pdf417ModuleWidth, pdf417RowHeight, pdf417Truncate, pdf417Of, levelOf}
 use Rattle.barcodes_2d.specs.Options.{optionsOf, lastCount, lastNumber, lastClamped}
 

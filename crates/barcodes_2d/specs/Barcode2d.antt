@@ -7,17 +7,17 @@ use lib.IntN.{ℤ, pos, negsuc, _*ℤ_}
 use lib.ListN.{length}
 use lib.Signed.{leZ}
 use Rattle.text.specs.Fields.{after, fields, same}
-use Rattle.text.specs.Int.{eqZ}
+use Rattle.numbers.specs.Int.{eqZ}
 use Rattle.text.specs.Utf8.{decode}
-use Rattle.elements.specs.declared.barcode_aztec.BarcodeAztec.{BarcodeAztec}
-use Rattle.elements.specs.declared.barcode_datamatrix.BarcodeDatamatrix.{BarcodeDatamatrix}
-use Rattle.elements.specs.declared.barcode_pdf417.BarcodePdf417.{BarcodePdf417}
-use Rattle.elements.specs.declared.barcode_qr.BarcodeQr.{BarcodeQr}
-use Rattle.elements.specs.declared.barcode_qr.QrErrorCorrectionLevel.{QrErrorCorrectionLevel}
-use Rattle.elements.specs.declared.barcode_qr.QrErrorCorrectionLevel.the-variants as level
-use Rattle.elements.specs.declared.data_span.DataSpan.{DataSpan}
-use Rattle.elements.specs.declared.label_element.LabelElement.the-variants as element
-use Rattle.elements.specs.declared.label_position.LabelPosition.{LabelPosition}
+use Rattle.elements.specs.declared.BarcodeAztec.{BarcodeAztec}
+use Rattle.elements.specs.declared.BarcodeDatamatrix.{BarcodeDatamatrix}
+use Rattle.elements.specs.declared.BarcodePdf417.{BarcodePdf417}
+use Rattle.elements.specs.declared.BarcodeQr.{BarcodeQr}
+use Rattle.elements.specs.declared.QrErrorCorrectionLevel.{QrErrorCorrectionLevel}
+use Rattle.elements.specs.declared.QrErrorCorrectionLevel.the-variants as level
+use Rattle.elements.specs.declared.DataSpan.{DataSpan}
+use Rattle.elements.specs.declared.LabelElement.the-variants as element
+use Rattle.elements.specs.declared.LabelPosition.{LabelPosition}
 use Rattle.elements.specs.declared.refusal.Refusal.the-variants as refusal
 use Rattle.barcodes_2d.specs.declared.barcode_2d.Symbology2d.{Symbology2d}
 use Rattle.barcodes_2d.specs.declared.barcode_2d.Symbology2d.the-variants.{Aztec, Datamatrix, Maxicode, Pdf417, Qr, Unlisted}

@@ -10,10 +10,10 @@ use lib.IntN.{ℤ, pos}
 use lib.ListN.{length, take, drop}
 use Rattle.text.specs.Blank.{front}
 use Rattle.text.specs.Class.{isDigit, isLetter}
-use Rattle.text.specs.Int.{minZ, maxZ}
-use Rattle.text.specs.Number.{numberSpelled, numberOr}
-use Rattle.text.specs.declared.number.Number.{Number}
-use Rattle.text.specs.declared.number.Number.the-variants as number
+use Rattle.numbers.specs.Int.{minZ, maxZ}
+use Rattle.numbers.specs.Number.{numberSpelled, numberOr}
+use Rattle.numbers.specs.declared.number.Number.{Number}
+use Rattle.numbers.specs.declared.number.Number.the-variants as number
 use Rattle.barcodes_2d.specs.declared.options.Wanted.{Wanted}
 use Rattle.barcodes_2d.specs.declared.options.Wanted.the-variants as wanted
 

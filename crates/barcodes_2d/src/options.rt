@@ -5,13 +5,13 @@ ghost use mathlib.Core.List.{[]};
 ghost use Rattle.text.specs.Class.{isDigit};
 ghost use Rattle.text.specs.Blank.{front};
 ghost use Rattle.barcodes_2d.specs.Options.{valueOf, Leading, OptionLen, startsWith, isNumber, isLevel, accepted, lastOf, lastCount, lastNumber, clamped, lastClamped, optionsOf};
-use text::class::is_digit;
-use text::class::is_letter;
-use text::int::max;
-use text::int::min;
-use text::number::Number;
-use text::number::or_default;
-use text::number::parse;
+use bytes::class::is_digit;
+use bytes::class::is_letter;
+use numbers::int::max;
+use numbers::int::min;
+use numbers::number::Number;
+use numbers::number::or_default;
+use numbers::number::parse;
 
 // How many digits s starts with.
 pub fn digit_run(s: &[u8]) -> usize

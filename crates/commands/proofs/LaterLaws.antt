@@ -10,10 +10,10 @@ use lib.IntN.{ℤ}
 use lib.ListN.{length, drop}
 use Rattle.text.specs.Fields.{indexOf, after, fields, quoted}
 use Rattle.text.specs.Utf8.{decode}
-use Rattle.elements.specs.declared.data_span.DataSpan.{DataSpan}
-use Rattle.elements.specs.declared.label_element.LabelElement.{LabelElement}
-use Rattle.elements.specs.declared.label_position.LabelPosition.{LabelPosition}
-use Rattle.elements.specs.declared.line_color.LineColor.{LineColor}
+use Rattle.elements.specs.declared.DataSpan.{DataSpan}
+use Rattle.elements.specs.declared.LabelElement.{LabelElement}
+use Rattle.elements.specs.declared.LabelPosition.{LabelPosition}
+use Rattle.elements.specs.declared.LineColor.{LineColor}
 use Rattle.elements.specs.Spans.{later, shifted}
 use Rattle.parameters.specs.declared.position.Placed.{Placed}
 use Rattle.parameters.specs.declared.position.Placed.the-variants as placing

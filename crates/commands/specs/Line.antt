@@ -6,8 +6,8 @@ use lib.Dec.{eqb}
 use lib.ListN.{length, drop}
 use Rattle.text.specs.Blank.{trimStart, trim}
 use Rattle.text.specs.Fields.{indexOf, before, quoted, withoutTrailingCommas}
-use Rattle.elements.specs.declared.data_span.DataSpan.{DataSpan}
-use Rattle.elements.specs.declared.label_position.LabelPosition.{LabelPosition}
+use Rattle.elements.specs.declared.DataSpan.{DataSpan}
+use Rattle.elements.specs.declared.LabelPosition.{LabelPosition}
 use Rattle.spelling.specs.declared.command.Command.{Command}
 use Rattle.spelling.specs.declared.command.Command.the-variants.{Clear, Reference, Data, Line, Diagonal, Box, Print, Other}
 use Rattle.spelling.specs.declared.command.DataCommand.{DataCommand}

@@ -6,7 +6,7 @@ use native.Mathlib.Omega.{arith}
 use lib.ListN.{length, drop, length-take, length-drop}
 use Rattle.text.specs.Utf8.{decode}
 use Rattle.text.proofs.Utf8Laws.{length-decode-le}
-use Rattle.elements.specs.declared.data_span.DataSpan.{DataSpan}
+use Rattle.elements.specs.declared.DataSpan.{DataSpan}
 use Rattle.element_frames.specs.Frame.{part}
 use Rattle.whole.specs.Step.{longest}
 

@@ -2,7 +2,7 @@
 use mathlib.Core.List.{List}
 use Prim.Native.Nat.{ℕ}
 use Rattle.text.specs.Utf8.{decode}
-use Rattle.elements.specs.declared.data_span.DataSpan.{DataSpan}
+use Rattle.elements.specs.declared.DataSpan.{DataSpan}
 use Rattle.element_frames.specs.Frame.{part}
 use Rattle.whole.specs.Given.{Due, text, within}
 use Rattle.whole.specs.Step.{longest}

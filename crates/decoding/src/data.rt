@@ -3,11 +3,11 @@ ghost use Rattle.whole.specs.Given.{Fills};
 ghost use Rattle.decoding.specs.Decoding.{dueOf};
 ghost use Rattle.decoding.specs.Written.{givenFlat};
 use crate::written::Written;
+use bytes::utf8::decoded_len;
+use bytes::utf8::write_decoded;
 use element_frames::data::part;
-use elements::data_span::DataSpan;
+use elements::DataSpan;
 use elements::refusal::INPUT_MAX;
-use text::utf8::decoded_len;
-use text::utf8::write_decoded;
 
 // No byte is decoded to more than three.
 pub const DECODED_MAX: usize = 50331648;

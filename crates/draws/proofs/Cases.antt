@@ -5,10 +5,10 @@ use mathlib.Core.Bool.{true, false}
 use mathlib.Core.List.{[], _∷_}
 use lib.IntN.{pos, negsuc}
 use Rattle.text.specs.Fields.{before, after, fields}
-use Rattle.text.specs.Number.{numberSpelled}
-use Rattle.elements.specs.declared.label_element.LabelElement.the-variants.{GraphicBox, DiagonalLine}
-use Rattle.elements.specs.declared.label_position.LabelPosition.{LabelPosition}
-use Rattle.elements.specs.declared.line_color.LineColor.the-variants.{Black}
+use Rattle.numbers.specs.Number.{numberSpelled}
+use Rattle.elements.specs.declared.LabelElement.the-variants.{GraphicBox, DiagonalLine}
+use Rattle.elements.specs.declared.LabelPosition.{LabelPosition}
+use Rattle.elements.specs.declared.LineColor.the-variants.{Black}
 use Rattle.elements.specs.declared.refusal.Refusal.the-variants.{OutOfRange}
 use Rattle.parameters.specs.declared.reading.Reading.the-variants.{Element, Refused}
 use Rattle.parameters.specs.Params.{numberAt, sizeAt, pointAt}

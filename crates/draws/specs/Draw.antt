@@ -7,11 +7,11 @@ use lib.IntN.{ℤ, pos, _-ℤ_}
 use lib.ListN.{length}
 use lib.Signed.{ltZ}
 use Rattle.text.specs.Fields.{after, fields}
-use Rattle.text.specs.Int.{checked, minZ, absZ}
-use Rattle.elements.specs.declared.label_element.LabelElement.the-variants as element
-use Rattle.elements.specs.declared.label_position.LabelPosition.{LabelPosition}
-use Rattle.elements.specs.declared.line_color.LineColor.{LineColor}
-use Rattle.elements.specs.declared.line_color.LineColor.the-variants as colour
+use Rattle.numbers.specs.Int.{checked, minZ, absZ}
+use Rattle.elements.specs.declared.LabelElement.the-variants as element
+use Rattle.elements.specs.declared.LabelPosition.{LabelPosition}
+use Rattle.elements.specs.declared.LineColor.{LineColor}
+use Rattle.elements.specs.declared.LineColor.the-variants as colour
 use Rattle.elements.specs.declared.refusal.Refusal.the-variants as refusal
 use Rattle.draws.specs.declared.draw.Corners.{Corners}
 use Rattle.draws.specs.declared.draw.CornersRead.{CornersRead}

@@ -1,22 +1,22 @@
 // `LO` and `LW`: lines as boxes; `LS`: diagonals; `X`: boxes by two corners.
 ghost use mathlib.Core.Path.{_≡_};
 ghost use Rattle.draws.specs.Draw.{lineElement, lineReading, cornersRead, extentOf, drawnAt, sameWay, diagonalOf, diagonalReading, boxOf, boxReading};
-use elements::graphic_box::GraphicBox;
-use elements::graphic_diagonal_line::GraphicDiagonalLine;
-use elements::label_element::LabelElement;
-use elements::label_position::LabelPosition;
-use elements::line_color::LineColor;
+use elements::GraphicBox;
+use elements::GraphicDiagonalLine;
+use elements::LabelElement;
+use elements::LabelPosition;
+use elements::LineColor;
 use elements::refusal::Refusal;
+use numbers::int::Checked;
+use numbers::int::checked_abs;
+use numbers::int::checked_sub;
+use numbers::int::min;
 use parameters::params::number_from;
 use parameters::params::reaches;
 use parameters::params::size_from;
 use parameters::position::Placed;
 use parameters::position::place;
 use parameters::reading::Reading;
-use text::int::Checked;
-use text::int::checked_abs;
-use text::int::checked_sub;
-use text::int::min;
 
 pub struct LineFields {
     pub at: LabelPosition,

@@ -3,8 +3,8 @@
 use mathlib.Core.Path.{_≡_, refl}
 use mathlib.Core.List.{[], _∷_}
 use lib.IntN.{pos}
-use Rattle.elements.specs.declared.label_element.LabelElement.the-variants.{GraphicBox}
-use Rattle.elements.specs.declared.line_color.LineColor.the-variants.{Black}
+use Rattle.elements.specs.declared.LabelElement.the-variants.{GraphicBox}
+use Rattle.elements.specs.declared.LineColor.the-variants.{Black}
 use Rattle.element_frames.specs.Frame.{be32, head, drawn, frameOf, countFrame}
 use Rattle.element_frames.specs.Hex.{lineOf}
 

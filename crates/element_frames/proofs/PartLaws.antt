@@ -13,7 +13,7 @@ use Rattle.text.proofs.Utf8Laws.{length-decode-le}
 use Rattle.text.proofs.BoolLaws.{test}
 use Rattle.text.proofs.DropSteps.{rest}
 use Rattle.elements.specs.Spans.{later}
-use Rattle.elements.specs.declared.data_span.DataSpan.{DataSpan}
+use Rattle.elements.specs.declared.DataSpan.{DataSpan}
 use Rattle.element_frames.specs.Frame.{part}
 
 drop-min : (k : ℕ) (s : List ℕ) → drop (min k (length s)) s ≡ drop k s

@@ -6,21 +6,21 @@ use lib.IntN.{ℤ}
 use lib.Ieee.{Float, binary64, toBits}
 use lib.ListN.{length, take, drop}
 use Rattle.elements.specs.Spans.{spans}
-use Rattle.text.specs.Int.{twos}
+use Rattle.numbers.specs.Int.{twos}
 use Rattle.text.specs.Utf8.{decode}
-use Rattle.elements.specs.declared.barcode_128.BarcodeMode.{BarcodeMode}
-use Rattle.elements.specs.declared.barcode_128.BarcodeMode.the-variants.{Ucc, Automatic, Ean}
-use Rattle.elements.specs.declared.barcode_pdf417.BarcodePdf417 as pdf417
-use Rattle.elements.specs.declared.barcode_qr.QrErrorCorrectionLevel.{QrErrorCorrectionLevel}
-use Rattle.elements.specs.declared.barcode_qr.QrErrorCorrectionLevel.the-variants.{H, Q, M, L}
-use Rattle.elements.specs.declared.data_span.DataSpan.{DataSpan}
-use Rattle.elements.specs.declared.field_orientation.FieldOrientation.{FieldOrientation}
-use Rattle.elements.specs.declared.field_orientation.FieldOrientation.the-variants.{Normal, Rotated90, Rotated180, Rotated270}
-use Rattle.elements.specs.declared.label_element.LabelElement.{LabelElement}
-use Rattle.elements.specs.declared.label_element.LabelElement.the-variants.{Text, GraphicBox, DiagonalLine, GraphicField, Barcode128, BarcodeEan13, BarcodeEan8, BarcodeUca, Barcode2of5, Barcode39, BarcodePdf417, BarcodeAztec, BarcodeDatamatrix, BarcodeQr, Maxicode, BarcodeUcpe}
-use Rattle.elements.specs.declared.label_position.LabelPosition.{LabelPosition}
-use Rattle.elements.specs.declared.line_color.LineColor.{LineColor}
-use Rattle.elements.specs.declared.line_color.LineColor.the-variants.{Black, White}
+use Rattle.elements.specs.declared.BarcodeMode.{BarcodeMode}
+use Rattle.elements.specs.declared.BarcodeMode.the-variants.{Ucc, Automatic, Ean}
+use Rattle.elements.specs.declared.BarcodePdf417 as pdf417
+use Rattle.elements.specs.declared.QrErrorCorrectionLevel.{QrErrorCorrectionLevel}
+use Rattle.elements.specs.declared.QrErrorCorrectionLevel.the-variants.{H, Q, M, L}
+use Rattle.elements.specs.declared.DataSpan.{DataSpan}
+use Rattle.elements.specs.declared.FieldOrientation.{FieldOrientation}
+use Rattle.elements.specs.declared.FieldOrientation.the-variants.{Normal, Rotated90, Rotated180, Rotated270}
+use Rattle.elements.specs.declared.LabelElement.{LabelElement}
+use Rattle.elements.specs.declared.LabelElement.the-variants.{Text, GraphicBox, DiagonalLine, GraphicField, Barcode128, BarcodeEan13, BarcodeEan8, BarcodeUca, Barcode2of5, Barcode39, BarcodePdf417, BarcodeAztec, BarcodeDatamatrix, BarcodeQr, Maxicode, BarcodeUcpe}
+use Rattle.elements.specs.declared.LabelPosition.{LabelPosition}
+use Rattle.elements.specs.declared.LineColor.{LineColor}
+use Rattle.elements.specs.declared.LineColor.the-variants.{Black, White}
 
 -- "4 bytes, most significant first": the last 32 bits of v
 unfoldable pub be32 : ℕ → List ℕ

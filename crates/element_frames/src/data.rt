@@ -7,10 +7,10 @@ ghost use Rattle.element_frames.specs.Frame.{part, decoded};
 ghost use Rattle.element_frames.specs.Put.{PutHex};
 use crate::hex::put_decoded;
 use crate::hex::put_u32;
-use elements::data_span::DataSpan;
-use text::blank::first;
+use bytes::utf8::decoded_len;
+use elements::DataSpan;
+use numbers::blank::first;
 use text::num::min;
-use text::utf8::decoded_len;
 
 // The bytes at d, as far as the input goes.
 pub fn part(input: &[u8], d: DataSpan) -> &[u8]

@@ -7,11 +7,11 @@ ghost use Rattle.element_frames.specs.Frame.{flag, rotation, colour, mod
 ghost use Rattle.element_frames.specs.Put.{PutHex};
 use crate::hex::put_byte;
 use crate::hex::put_i32;
-use elements::barcode_128::BarcodeMode;
-use elements::barcode_qr::QrErrorCorrectionLevel;
-use elements::field_orientation::FieldOrientation;
-use elements::label_position::LabelPosition;
-use elements::line_color::LineColor;
+use elements::BarcodeMode;
+use elements::FieldOrientation;
+use elements::LabelPosition;
+use elements::LineColor;
+use elements::QrErrorCorrectionLevel;
 
 pub fn flag(b: bool) -> u8
     ensures { λ r. ⌜ r ≡ flag b ⌝ }

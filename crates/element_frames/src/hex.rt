@@ -8,8 +8,8 @@ ghost use Rattle.text.specs.Wrote.{Put};
 ghost use Rattle.element_frames.specs.Frame.{be32, number, float, sized};
 ghost use Rattle.element_frames.specs.Hex.{digit};
 ghost use Rattle.element_frames.specs.Put.{PutHex};
-use text::utf8::is_whole;
-use text::utf8::part_len;
+use bytes::utf8::is_whole;
+use bytes::utf8::part_len;
 
 // The digit of n.
 fn hex_digit(n: u8) -> u8
@@ -43,7 +43,7 @@ pub fn put_i32(out: &mut [u8], at: usize, v: i32) -> usize
     requires { ⌜ at + 8 ≤ length (now out) ⌝ }
     ensures { λ r. ⌜ PutHex (now (out .exit)) (now (out .entry)) at (number v) 4 r ⌝ }
 {
-    let bits = text::int::bits(v);
+    let bits = numbers::int::bits(v);
     put_u32(out, at, bits as usize)
 }
 
@@ -51,7 +51,7 @@ pub fn put_f64(out: &mut [u8], at: usize, x: f64) -> usize
     requires { ⌜ at + 16 ≤ length (now out) ⌝ }
     ensures { λ r. ⌜ PutHex (now (out .exit)) (now (out .entry)) at (float x) 8 r ⌝ }
 {
-    let bits = text::float::bits(x) as usize;
+    let bits = numbers::float::bits(x) as usize;
     let a = put_u32(out, at, bits / 4294967296);
     put_u32(out, a, bits)
 }

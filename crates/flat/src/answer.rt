@@ -3,19 +3,10 @@ ghost use mathlib.Core.Path.{_≡_};
 ghost use Rattle.flat.specs.Flat.{event, placed, barred};
 use element_frames::fields::flag;
 use element_frames::fields::rotation;
-use elements::data_span::DataSpan;
-use elements::field_orientation::FieldOrientation;
-use elements::label_position::LabelPosition;
-
-// The state of a walk: the reference point, how many elements are pending, and where the next unit stands. The place is last: compilers copy the first
-// sixteen bytes in one move, which waits for all that was just stored there, and the next step waits for the place alone.
-#[repr(C)]
-pub struct Walk {
-    pub x: i32,
-    pub y: i32,
-    pub pending: usize,
-    pub place: usize,
-}
+use elements::DataSpan;
+use elements::FieldOrientation;
+use elements::LabelPosition;
+use elements::walk_state::WalkState;
 
 // What a step answers. A field that is none of its kind's is 0.
 #[repr(C)]
@@ -67,11 +58,11 @@ pub struct Answer {
     pub data_start: usize,
     pub data_len: usize,
     // The state for the next step; after a refusal the one that was given.
-    pub next: Walk,
+    pub next: WalkState,
 }
 
 // A print, a clear, the end or a refusal.
-pub fn event(kind: u8, number: u8, place: usize, count: usize, next: Walk) -> Answer
+pub fn event(kind: u8, number: u8, place: usize, count: usize, next: WalkState) -> Answer
     ensures { λ r. ⌜ r ≡ event kind number place count next ⌝ }
 {
     Answer {
@@ -109,7 +100,7 @@ pub fn event(kind: u8, number: u8, place: usize, count: usize, next: Walk) -> An
 }
 
 // An element, without the fields of its kind.
-pub fn placed(kind: u8, p: LabelPosition, d: DataSpan, next: Walk) -> Answer
+pub fn placed(kind: u8, p: LabelPosition, d: DataSpan, next: WalkState) -> Answer
     ensures { λ r. ⌜ r ≡ placed kind p d next ⌝ }
 {
     Answer {
@@ -153,7 +144,7 @@ pub fn barred(
     o: FieldOrientation,
     line: bool,
     d: DataSpan,
-    next: Walk,
+    next: WalkState,
 ) -> Answer
     ensures { λ r. ⌜ r ≡ barred kind p o line d next ⌝ }
 {

@@ -1,9 +1,8 @@
 // An element as a flat answer, kind by kind.
 ghost use mathlib.Core.Path.{_≡_};
-ghost use Rattle.elements.specs.declared.label_element.LabelElement.the-variants as element;
+ghost use Rattle.elements.specs.declared.LabelElement.the-variants as element;
 ghost use Rattle.flat.specs.Flat.{flatElement};
 use crate::answer::Answer;
-use crate::answer::Walk;
 use crate::answer::barred;
 use crate::answer::placed;
 use element_frames::fields::colour;
@@ -11,27 +10,28 @@ use element_frames::fields::flag;
 use element_frames::fields::level;
 use element_frames::fields::mode;
 use element_frames::fields::rotation;
-use elements::barcode_2of5::Barcode2of5WithData;
-use elements::barcode_39::Barcode39WithData;
-use elements::barcode_128::Barcode128WithData;
-use elements::barcode_aztec::BarcodeAztecWithData;
-use elements::barcode_datamatrix::BarcodeDatamatrixWithData;
-use elements::barcode_ean8::BarcodeEan8WithData;
-use elements::barcode_ean13::BarcodeEan13WithData;
-use elements::barcode_pdf417::BarcodePdf417WithData;
-use elements::barcode_qr::BarcodeQrWithData;
-use elements::barcode_upca::BarcodeUcaWithData;
-use elements::barcode_upce::BarcodeUcpeWithData;
-use elements::data_span::DataSpan;
-use elements::graphic_box::GraphicBox;
-use elements::graphic_diagonal_line::GraphicDiagonalLine;
-use elements::graphic_field::GraphicField;
-use elements::label_element::LabelElement;
-use elements::maxicode::MaxicodeWithData;
-use elements::text_field::TextField;
+use elements::Barcode2of5WithData;
+use elements::Barcode39WithData;
+use elements::Barcode128WithData;
+use elements::BarcodeAztecWithData;
+use elements::BarcodeDatamatrixWithData;
+use elements::BarcodeEan8WithData;
+use elements::BarcodeEan13WithData;
+use elements::BarcodePdf417WithData;
+use elements::BarcodeQrWithData;
+use elements::BarcodeUcaWithData;
+use elements::BarcodeUcpeWithData;
+use elements::DataSpan;
+use elements::GraphicBox;
+use elements::GraphicDiagonalLine;
+use elements::GraphicField;
+use elements::LabelElement;
+use elements::MaxicodeWithData;
+use elements::TextField;
+use elements::walk_state::WalkState;
 
 // Kind 01.
-fn text_field(e: TextField, next: Walk) -> Answer
+fn text_field(e: TextField, next: WalkState) -> Answer
     ensures { λ r. ⌜ r ≡ flatElement (element.Text e) next ⌝ }
 {
     let position = e.position;
@@ -47,7 +47,7 @@ fn text_field(e: TextField, next: Walk) -> Answer
 }
 
 // Kind 02.
-fn graphic_box(e: GraphicBox, next: Walk) -> Answer
+fn graphic_box(e: GraphicBox, next: WalkState) -> Answer
     ensures { λ r. ⌜ r ≡ flatElement (element.GraphicBox e) next ⌝ }
 {
     let position = e.position;
@@ -62,7 +62,7 @@ fn graphic_box(e: GraphicBox, next: Walk) -> Answer
 }
 
 // Kind 03.
-fn diagonal(e: GraphicDiagonalLine, next: Walk) -> Answer
+fn diagonal(e: GraphicDiagonalLine, next: WalkState) -> Answer
     ensures { λ r. ⌜ r ≡ flatElement (element.DiagonalLine e) next ⌝ }
 {
     let position = e.position;
@@ -76,7 +76,7 @@ fn diagonal(e: GraphicDiagonalLine, next: Walk) -> Answer
 }
 
 // Kind 04.
-fn graphic_field(e: GraphicField, next: Walk) -> Answer
+fn graphic_field(e: GraphicField, next: WalkState) -> Answer
     ensures { λ r. ⌜ r ≡ flatElement (element.GraphicField e) next ⌝ }
 {
     let position = e.position;
@@ -87,7 +87,7 @@ fn graphic_field(e: GraphicField, next: Walk) -> Answer
 }
 
 // Kind 05.
-fn code_128(e: Barcode128WithData, next: Walk) -> Answer
+fn code_128(e: Barcode128WithData, next: WalkState) -> Answer
     ensures { λ r. ⌜ r ≡ flatElement (element.Barcode128 e) next ⌝ }
 {
     let b = e.barcode;
@@ -103,7 +103,7 @@ fn code_128(e: Barcode128WithData, next: Walk) -> Answer
 }
 
 // Kind 06.
-fn ean13(e: BarcodeEan13WithData, next: Walk) -> Answer
+fn ean13(e: BarcodeEan13WithData, next: WalkState) -> Answer
     ensures { λ r. ⌜ r ≡ flatElement (element.BarcodeEan13 e) next ⌝ }
 {
     let b = e.barcode;
@@ -117,7 +117,7 @@ fn ean13(e: BarcodeEan13WithData, next: Walk) -> Answer
 }
 
 // Kind 07.
-fn ean8(e: BarcodeEan8WithData, next: Walk) -> Answer
+fn ean8(e: BarcodeEan8WithData, next: WalkState) -> Answer
     ensures { λ r. ⌜ r ≡ flatElement (element.BarcodeEan8 e) next ⌝ }
 {
     let b = e.barcode;
@@ -131,7 +131,7 @@ fn ean8(e: BarcodeEan8WithData, next: Walk) -> Answer
 }
 
 // Kind 08.
-fn upca(e: BarcodeUcaWithData, next: Walk) -> Answer
+fn upca(e: BarcodeUcaWithData, next: WalkState) -> Answer
     ensures { λ r. ⌜ r ≡ flatElement (element.BarcodeUca e) next ⌝ }
 {
     let b = e.barcode;
@@ -145,7 +145,7 @@ fn upca(e: BarcodeUcaWithData, next: Walk) -> Answer
 }
 
 // Kind 09.
-fn interleaved(e: Barcode2of5WithData, next: Walk) -> Answer
+fn interleaved(e: Barcode2of5WithData, next: WalkState) -> Answer
     ensures { λ r. ⌜ r ≡ flatElement (element.Barcode2of5 e) next ⌝ }
 {
     let b = e.barcode;
@@ -161,7 +161,7 @@ fn interleaved(e: Barcode2of5WithData, next: Walk) -> Answer
 }
 
 // Kind 0a.
-fn code_39(e: Barcode39WithData, next: Walk) -> Answer
+fn code_39(e: Barcode39WithData, next: WalkState) -> Answer
     ensures { λ r. ⌜ r ≡ flatElement (element.Barcode39 e) next ⌝ }
 {
     let b = e.barcode;
@@ -177,7 +177,7 @@ fn code_39(e: Barcode39WithData, next: Walk) -> Answer
 }
 
 // Kind 0b.
-fn pdf417(e: BarcodePdf417WithData, next: Walk) -> Answer
+fn pdf417(e: BarcodePdf417WithData, next: WalkState) -> Answer
     ensures { λ r. ⌜ r ≡ flatElement (element.BarcodePdf417 e) next ⌝ }
 {
     let b = e.barcode;
@@ -196,7 +196,7 @@ fn pdf417(e: BarcodePdf417WithData, next: Walk) -> Answer
 }
 
 // Kind 0c.
-fn aztec(e: BarcodeAztecWithData, next: Walk) -> Answer
+fn aztec(e: BarcodeAztecWithData, next: WalkState) -> Answer
     ensures { λ r. ⌜ r ≡ flatElement (element.BarcodeAztec e) next ⌝ }
 {
     let b = e.barcode;
@@ -209,7 +209,7 @@ fn aztec(e: BarcodeAztecWithData, next: Walk) -> Answer
 }
 
 // Kind 0d.
-fn datamatrix(e: BarcodeDatamatrixWithData, next: Walk) -> Answer
+fn datamatrix(e: BarcodeDatamatrixWithData, next: WalkState) -> Answer
     ensures { λ r. ⌜ r ≡ flatElement (element.BarcodeDatamatrix e) next ⌝ }
 {
     let b = e.barcode;
@@ -223,7 +223,7 @@ fn datamatrix(e: BarcodeDatamatrixWithData, next: Walk) -> Answer
 }
 
 // Kind 0e.
-fn qr(e: BarcodeQrWithData, next: Walk) -> Answer
+fn qr(e: BarcodeQrWithData, next: WalkState) -> Answer
     ensures { λ r. ⌜ r ≡ flatElement (element.BarcodeQr e) next ⌝ }
 {
     let b = e.barcode;
@@ -237,7 +237,7 @@ fn qr(e: BarcodeQrWithData, next: Walk) -> Answer
 }
 
 // Kind 0f.
-fn maxicode(e: MaxicodeWithData, next: Walk) -> Answer
+fn maxicode(e: MaxicodeWithData, next: WalkState) -> Answer
     ensures { λ r. ⌜ r ≡ flatElement (element.Maxicode e) next ⌝ }
 {
     let code = e.code;
@@ -249,7 +249,7 @@ fn maxicode(e: MaxicodeWithData, next: Walk) -> Answer
 }
 
 // Kind 10.
-fn upce(e: BarcodeUcpeWithData, next: Walk) -> Answer
+fn upce(e: BarcodeUcpeWithData, next: WalkState) -> Answer
     ensures { λ r. ⌜ r ≡ flatElement (element.BarcodeUcpe e) next ⌝ }
 {
     let b = e.barcode;
@@ -263,7 +263,7 @@ fn upce(e: BarcodeUcpeWithData, next: Walk) -> Answer
 }
 
 // The element e, and the state for the next step.
-pub fn flat_element(e: LabelElement, next: Walk) -> Answer
+pub fn flat_element(e: LabelElement, next: WalkState) -> Answer
     ensures { λ r. ⌜ r ≡ flatElement e next ⌝ }
 {
     match e {

@@ -10,16 +10,16 @@ ghost use Rattle.grammar.specs.Filled.{givenOf};
 ghost use Rattle.grammar.specs.Found.{textLine};
 ghost use Rattle.grammar.specs.Normal.{normalised};
 ghost use Rattle.format.specs.Normalise.{dueOf, ended, Takes, TakesAt, Blocks};
+use bytes::put::put_bytes;
+use bytes::scan::find;
 use elements::filled::Filled;
 use elements::refusal::INPUT_MAX;
 use elements::refusal::Refusal;
 use graphics::gw_span::Graphic;
 use graphics::gw_span::gw_span;
 use graphics::gw_span::opens_gw;
-use text::blank::trim_ascii_end;
-use text::blank::trim_ascii_start;
-use text::put::put_bytes;
-use text::scan::find;
+use numbers::blank::trim_ascii_end;
+use numbers::blank::trim_ascii_start;
 
 // What stands first: its bytes, and the part of them that stays. Nothing is written for a part of no bytes.
 pub struct Chunk {

@@ -27,7 +27,7 @@ use element_frames::data::with_payload;
 use element_frames::hex::put_byte;
 use element_frames::hex::put_lf;
 use element_frames::hex::put_u32;
-use elements::label_element::LabelElement;
+use elements::LabelElement;
 
 // The digits of an element's frame.
 fn put_element(input: &[u8], out: &mut [u8], at: usize, e: LabelElement) -> usize

@@ -7,9 +7,9 @@ use Prim.Native.Nat.{ℕ, _+_, _*_, _≤_, min}
 use native.Mathlib.Omega.{arith}
 use native.Mathlib.Nat.{add-zero, zero-add, min-eq-right, min-le-left}
 use lib.ListN.{length, length-append, length-take, length-drop, drop}
-use Rattle.elements.specs.declared.data_span.DataSpan.{DataSpan}
-use Rattle.elements.specs.declared.label_element.LabelElement.{LabelElement}
-use Rattle.elements.specs.declared.label_element.LabelElement.the-variants.{Text, GraphicBox, DiagonalLine, GraphicField, Barcode128, BarcodeEan13, BarcodeEan8, BarcodeUca, Barcode2of5, Barcode39, BarcodePdf417, BarcodeAztec, BarcodeDatamatrix, BarcodeQr, Maxicode, BarcodeUcpe}
+use Rattle.elements.specs.declared.DataSpan.{DataSpan}
+use Rattle.elements.specs.declared.LabelElement.{LabelElement}
+use Rattle.elements.specs.declared.LabelElement.the-variants.{Text, GraphicBox, DiagonalLine, GraphicField, Barcode128, BarcodeEan13, BarcodeEan8, BarcodeUca, Barcode2of5, Barcode39, BarcodePdf417, BarcodeAztec, BarcodeDatamatrix, BarcodeQr, Maxicode, BarcodeUcpe}
 use Rattle.element_frames.specs.Frame.{part, frameOf, countFrame}
 use Rattle.element_frames.specs.Hex.{lineOf}
 use Rattle.element_frames.proofs.HexLaws.{length-line, length-be32}

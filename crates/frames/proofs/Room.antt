@@ -7,10 +7,10 @@ use Prim.Native.Nat.{ℕ, zero, suc, _+_, _-_, _*_, _<_, _≤_}
 use native.Mathlib.Omega.{arith}
 use lib.ListN.{length, length-append}
 use borrow.Author.Tests.{le-ltb}
-use Rattle.elements.specs.declared.data_span.DataSpan.{DataSpan}
-use Rattle.elements.specs.declared.label_element.LabelElement.{LabelElement}
-use Rattle.elements.specs.declared.label_element.LabelElement.the-variants.{Text, GraphicBox, DiagonalLine, GraphicField, Barcode128, BarcodeEan13, BarcodeEan8, BarcodeUca, Barcode2of5, Barcode39, BarcodePdf417, BarcodeAztec, BarcodeDatamatrix, BarcodeQr, Maxicode, BarcodeUcpe}
-use Rattle.elements.specs.declared.label_position.LabelPosition.{LabelPosition}
+use Rattle.elements.specs.declared.DataSpan.{DataSpan}
+use Rattle.elements.specs.declared.LabelElement.{LabelElement}
+use Rattle.elements.specs.declared.LabelElement.the-variants.{Text, GraphicBox, DiagonalLine, GraphicField, Barcode128, BarcodeEan13, BarcodeEan8, BarcodeUca, Barcode2of5, Barcode39, BarcodePdf417, BarcodeAztec, BarcodeDatamatrix, BarcodeQr, Maxicode, BarcodeUcpe}
+use Rattle.elements.specs.declared.LabelPosition.{LabelPosition}
 use Rattle.elements.specs.Spans.{spans, later, shifted}
 use Rattle.element_frames.specs.Frame.{frameOf, lens}
 use Rattle.element_frames.proofs.FrameLaws.{frame-le, frame-plain}
@@ -34,8 +34,7 @@ use Rattle.grammar.proofs.LengthLaws.{Long, line-long}
 use Rattle.elements.specs.Walk.{fresh}
 use Rattle.walk.specs.Steps.{stateOf, traceOf}
 use Rattle.frames.specs.Listing.{FramedLabel, linesOf, labelLines, listingOf, outcomeOf, listingDue, dueOf}
-use Rattle.frames.specs.Printing.{shownOf, printedOf}
-use Rattle.frames.specs.Printing as printing
+use Rattle.frames.specs.Printing.{shownOf, refusalBy, shownBy, printedOf}
 use Rattle.frames.proofs.ListingLaws.{length-lines, length-label}
 
 -- an element has one span of data or none
@@ -140,9 +139,9 @@ length-listing-le s ls e =
 
 -- a buffer of 16 bytes for each of 65,536 is never too short
 pub never-short : (s : List ℕ) → length s ≤ 65536 → printedOf s 1048576 ≡ shownOf (dueOf s)
-unfolding printing.printed
+unfolding refusalBy
 never-short s h = rw (le-ltb 65536 (length s) h) (by (outcomeOf s) (length-listing-le s))
   where
-    by : (o : Outcome (List ℕ) Unit) → ((ls : List FramedLabel) → o ≡ listed ls → length (listingOf ls) ≤ 16 * length s) → shownOf (fitting (listingDue o) 1048576) ≡ shownOf (listingDue o)
+    by : (o : Outcome (List ℕ) Unit) → ((ls : List FramedLabel) → o ≡ listed ls → length (listingOf ls) ≤ 16 * length s) → shownBy 1048576 (fitting (listingDue o) 1048576) ≡ shownOf (listingDue o)
     by (listed ls) r = simp (le-ltb 1048576 (length (listingOf ls)) (omega (arith, r ls refl)))
     by (refusal-of n p) r = refl

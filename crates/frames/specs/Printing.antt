@@ -20,26 +20,35 @@ abbrev pub shownOf : Due → List ℕ
 shownOf (text t) = t
 shownOf (denied n p) = refusalLine n p
 
--- what a program prints that has read s, by way of a buffer of m bytes: "over 65,536 bytes: 14"; fewer than 13 bytes cannot hold a refusal
-unfoldable pub printed : List ℕ → Due → ℕ → List ℕ
-printed s d m = cond (ltb m 13) [] (shownOf (fitting (within 65536 s d) m))
+-- a refusal by way of a buffer of m bytes: fewer than 13 cannot hold it
+unfoldable pub refusalBy : ℕ → ℕ → ℕ → List ℕ
+refusalBy m n p = cond (ltb m 13) [] (refusalLine n p)
+
+-- what is due, by way of that buffer
+abbrev pub shownBy : ℕ → Due → List ℕ
+shownBy m (text t) = t
+shownBy m (denied n p) = refusalBy m n p
+
+-- what a program prints that has read s, by way of that buffer: "over 65,536 bytes: 14"
+abbrev pub printed : List ℕ → Due → ℕ → List ℕ
+printed s d m = shownBy m (fitting (within 65536 s d) m)
 
 -- "The listing program reads standard input"
 abbrev pub printedOf : List ℕ → ℕ → List ℕ
 printedOf s m = printed s (dueOf s) m
 
 -- ---- the parts
--- what is written over a buffer that a call has filled, by what the call gave back
-abbrev pub overwrites : Given → List ℕ
-overwrites (bytes k) = []
-overwrites (refused n p) = refusalLine n p
+-- what is written over a buffer of m bytes that a call has filled, by what the call gave back
+abbrev pub overwrites : ℕ → Given → List ℕ
+overwrites m (bytes k) = []
+overwrites m (refused n p) = refusalBy m n p
 
 -- how many bytes there are to print then
-abbrev pub lengthOf : Given → ℕ
-lengthOf (bytes k) = k
-lengthOf (refused n p) = length (refusalLine n p)
+abbrev pub lengthOf : ℕ → Given → ℕ
+lengthOf m (bytes k) = k
+lengthOf m (refused n p) = length (refusalBy m n p)
 
 -- l becomes n, and r bytes of it are to print
 pub record Prints (n l : List ℕ) (g : Given) (r : ℕ) : Type 0 where
-  pub wrote : Wrote n l 0 (overwrites g)
-  pub next : r ≡ lengthOf g
+  pub wrote : Wrote n l 0 (overwrites (length l) g)
+  pub next : r ≡ lengthOf (length l) g

@@ -51,7 +51,7 @@ fn put_labels(input: &[u8], out: &mut [u8]) -> usize
     let mut at = 0;
     loop {
         match step(input, here) {
-            Step::Element(e, next) => {
+            Step::Element(_, next) => {
                 here = next;
             }
             Step::Clear(next) => {

@@ -1,5 +1,4 @@
 // What the programs print for an input.
-ghost use Prim.Native.Nat.{_≤_};
 ghost use lib.ListN.{length};
 ghost use Rattle.text.specs.Wrote.{Put};
 ghost use Rattle.grammar.specs.Filled.{givenOf};
@@ -12,24 +11,25 @@ use frame_lines::frame::put_refusal;
 // The longest input of a program.
 pub const PROGRAM_MAX: usize = 65536;
 
-// How many bytes of out there are to print when a call has filled it and answered a; a refusal is written as its one frame ff, from the start.
+// How many bytes of out there are to print when a call has filled it and answered a; a refusal is written as its one frame ff, from the start, where out can hold it.
 pub fn put_answer(out: &mut [u8], a: Filled) -> usize
-    requires { ⌜ 13 ≤ length (now out) ⌝ }
     ensures { λ r. ⌜ Prints (now (out .exit)) (now (out .entry)) (givenOf a) r ⌝ }
 {
     match a {
         Filled::Bytes(n) => n,
-        Filled::Refused(k, p) => put_refusal(out, 0, k.number(), p),
+        Filled::Refused(k, p) => {
+            if out.len() < 13 {
+                return 0;
+            }
+            put_refusal(out, 0, k.number(), p)
+        }
     }
 }
 
-// The listing of input, or the one frame ff of a refusal, from the start of out; nothing where out cannot hold a refusal. Gives its length.
+// The listing of input, or the one frame ff of a refusal, from the start of out; nothing where out cannot hold the refusal. Gives its length.
 pub fn print_listing(input: &[u8], out: &mut [u8]) -> usize
     ensures { λ r. ⌜ Put (now (out .exit)) (now (out .entry)) 0 (printedOf (now (input .entry)) (length (now (out .entry)))) r ⌝ }
 {
-    if out.len() < 13 {
-        return 0;
-    }
     if PROGRAM_MAX < input.len() {
         return put_answer(out, Filled::Refused(Refusal::InputTooLong, 0));
     }

@@ -12,10 +12,10 @@ use Rattle.text.specs.Blank.{trim}
 use Rattle.text.specs.Fields.{after, fields, field}
 use Rattle.text.specs.Utf8.{decode}
 use Rattle.text.proofs.BoolLaws.{test}
-use Rattle.elements.specs.declared.data_span.DataSpan.{DataSpan}
-use Rattle.elements.specs.declared.label_element.LabelElement.{LabelElement}
-use Rattle.elements.specs.declared.label_position.LabelPosition.{LabelPosition}
-use Rattle.elements.specs.declared.line_color.LineColor.{LineColor}
+use Rattle.elements.specs.declared.DataSpan.{DataSpan}
+use Rattle.elements.specs.declared.LabelElement.{LabelElement}
+use Rattle.elements.specs.declared.LabelPosition.{LabelPosition}
+use Rattle.elements.specs.declared.LineColor.{LineColor}
 use Rattle.elements.specs.declared.refusal.Refusal.{Refusal}
 use Rattle.elements.specs.declared.refusal.Refusal.the-variants as refusal
 use Rattle.elements.specs.Refusals.{numberOf}

@@ -8,7 +8,7 @@ use lib.ListN.{length, take, drop, take-append-drop}
 use lib.Seq.{length-take-le}
 use Rattle.text.specs.Blank.{trimStart, trim}
 use Rattle.text.proofs.TrimLaws.{trim-trim, trim-start-is, trim-end-is}
-use Rattle.elements.specs.declared.label_position.LabelPosition.{LabelPosition}
+use Rattle.elements.specs.declared.LabelPosition.{LabelPosition}
 use Rattle.parameters.specs.Reading.{laterReading}
 use Rattle.spelling.specs.Command.{commandOf}
 use Rattle.commands.specs.Line.{commandReading, leadOf, readLine}

@@ -13,9 +13,9 @@ use Rattle.text.specs.Fields.{indexOf, before, quoted, fields, withoutTrailingC
 use Rattle.text.proofs.DropLaws.{drop-while-le}
 use Rattle.text.proofs.FieldsLaws.{fields-le}
 use Rattle.text.proofs.TrimLaws.{length-trim-le}
-use Rattle.elements.specs.declared.data_span.DataSpan.{DataSpan}
-use Rattle.elements.specs.declared.label_element.LabelElement.{LabelElement}
-use Rattle.elements.specs.declared.label_position.LabelPosition.{LabelPosition}
+use Rattle.elements.specs.declared.DataSpan.{DataSpan}
+use Rattle.elements.specs.declared.LabelElement.{LabelElement}
+use Rattle.elements.specs.declared.LabelPosition.{LabelPosition}
 use Rattle.elements.specs.Spans.{spans}
 use Rattle.parameters.specs.declared.reading.Reading.the-variants as reading
 use Rattle.spelling.specs.declared.command.Command.{Command}

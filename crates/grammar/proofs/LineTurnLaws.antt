@@ -14,7 +14,7 @@ use Rattle.text.specs.Blank.{dropWhile, front, trim}
 use Rattle.text.specs.Fields.{indexOf}
 use Rattle.text.proofs.BoolLaws.{test}
 use Rattle.text.proofs.FieldsLaws.{index-le}
-use Rattle.elements.specs.declared.label_position.LabelPosition.{LabelPosition}
+use Rattle.elements.specs.declared.LabelPosition.{LabelPosition}
 use Rattle.graphics.specs.declared.gw_span.Graphic.{Graphic}
 use Rattle.graphics.specs.declared.gw_span.Graphic.the-variants as graphic
 use Rattle.graphics.specs.Block.{gwSpan}

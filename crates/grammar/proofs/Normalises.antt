@@ -6,8 +6,8 @@ use Prim.Native.Nat.{ℕ}
 use lib.ListN.{length}
 use Rattle.text.specs.Blank.{trim, trimAscii}
 use Rattle.text.proofs.TrimLaws.{trim-trim-ascii}
-use Rattle.elements.specs.declared.label_element.LabelElement.{LabelElement}
-use Rattle.elements.specs.declared.label_position.LabelPosition.{LabelPosition}
+use Rattle.elements.specs.declared.LabelElement.{LabelElement}
+use Rattle.elements.specs.declared.LabelPosition.{LabelPosition}
 use Rattle.elements.specs.Spans.{In, shifted}
 use Rattle.parameters.specs.declared.reading.Reading.{Reading}
 use Rattle.parameters.specs.declared.reading.Reading.the-variants as reading

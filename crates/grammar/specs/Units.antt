@@ -7,7 +7,7 @@ use lib.Dec.{eqb}
 use lib.IntN.{ℤ, pos}
 use lib.ListN.{length}
 use Rattle.text.specs.Blank.{trim}
-use Rattle.text.specs.Number.{fieldOr}
+use Rattle.numbers.specs.Number.{fieldOr}
 use Rattle.graphics.specs.Block.{isLineBlank, opensGw, inField}
 use Rattle.grammar.specs.WellFormed.{wellFormed}
 

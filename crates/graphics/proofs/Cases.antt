@@ -5,7 +5,7 @@ use mathlib.Core.List.{List, [], _∷_, _++_}
 use Prim.Native.Nat.{ℕ}
 use lib.IntN.{ℤ, pos}
 use lib.ListN.{take, drop}
-use Rattle.text.specs.Number.{numberSpelled}
+use Rattle.numbers.specs.Number.{numberSpelled}
 use Rattle.elements.specs.declared.refusal.Refusal.the-variants as refusal
 use Rattle.graphics.specs.declared.gw_span.Graphic.{Graphic}
 use Rattle.graphics.specs.declared.gw_span.Graphic.the-variants as graphic

@@ -10,9 +10,9 @@ use lib.ListN.{length, take, drop}
 use lib.Signed.{ltZ}
 use Rattle.text.specs.Blank.{dropWhile, front}
 use Rattle.text.specs.Fields.{same}
-use Rattle.text.specs.Number.{fieldOr}
-use Rattle.elements.specs.declared.label_element.LabelElement.the-variants as element
-use Rattle.elements.specs.declared.label_position.LabelPosition.{LabelPosition}
+use Rattle.numbers.specs.Number.{fieldOr}
+use Rattle.elements.specs.declared.LabelElement.the-variants as element
+use Rattle.elements.specs.declared.LabelPosition.{LabelPosition}
 use Rattle.elements.specs.declared.refusal.Refusal.the-variants as refusal
 use Rattle.elements.specs.Spans.{shifted}
 use Rattle.graphics.specs.declared.gw_span.Block.{Block}

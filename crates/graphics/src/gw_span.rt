@@ -5,15 +5,15 @@ ghost use Prim.Native.Nat.{_+_, _<_, _≤_};
 ghost use lib.ListN.{length};
 ghost use Rattle.text.specs.Blank.{dropWhile};
 ghost use Rattle.graphics.specs.Block.{isLineBlank, opensGw, inField, closes, headerNumber, afterHeaderField, fourClosed, payloadOf, gwNumbers, measured, gwSpan, graphicAt, blockReading, laterBlock, FieldLen};
-use elements::data_span::DataSpan;
-use elements::graphic_field::GraphicField;
-use elements::label_element::LabelElement;
-use elements::label_position::LabelPosition;
+use elements::DataSpan;
+use elements::GraphicField;
+use elements::LabelElement;
+use elements::LabelPosition;
 use elements::refusal::Refusal;
+use numbers::number::number_or;
 use parameters::params::tail_two;
 use parameters::position::Placed;
 use parameters::position::place;
-use text::number::number_or;
 
 // An ASCII blank other than LF.
 pub fn is_line_blank(b: u8) -> bool

@@ -3,7 +3,7 @@
 use mathlib.Core.Path.{refl}
 use lib.Dec.{lit<}
 use Rattle.text.specs.Fields.{before, after, beforeLast, fields, withoutTrailingCommas}
-use Rattle.text.specs.Number.{numberSpelled}
+use Rattle.numbers.specs.Number.{numberSpelled}
 use Rattle.parameters.specs.Params.{numberAt, sizeAt, pointAt, typeAt, exactly}
 use Rattle.parameters.specs.Position.{placed}
 use Rattle.parameters.specs.Rotation.{rotationOf}

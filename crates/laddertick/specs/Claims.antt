@@ -10,8 +10,8 @@ use lib.ListN.{length}
 use Rattle.text.specs.Blank.{dropBoth, isWhiteSpace, trim}
 use Rattle.text.specs.Utf8.{codePoints}
 use Rattle.texts.specs.Font.{widthOf}
-use Rattle.elements.specs.declared.label_element.LabelElement.{LabelElement}
-use Rattle.elements.specs.declared.label_position.LabelPosition.{LabelPosition}
+use Rattle.elements.specs.declared.LabelElement.{LabelElement}
+use Rattle.elements.specs.declared.LabelPosition.{LabelPosition}
 use Rattle.elements.specs.declared.refusal.Refusal.{Refusal}
 use Rattle.elements.specs.declared.refusal.Refusal.the-variants.{OutOfRange}
 use Rattle.elements.specs.Refusals.{numberOf}

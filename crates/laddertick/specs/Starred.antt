@@ -9,11 +9,11 @@ use Prim.Native.String.{String}
 use Prim.Native.String as string
 use lib.Ieee.{Float, binary64, ofInt}
 use lib.IntN.{pos, negsuc}
-use Rattle.elements.specs.declared.field_orientation.FieldOrientation.the-variants.{Normal}
-use Rattle.elements.specs.declared.label_element.LabelElement.{LabelElement}
-use Rattle.elements.specs.declared.label_element.LabelElement.the-variants.{Text, GraphicBox, DiagonalLine, GraphicField}
-use Rattle.elements.specs.declared.label_position.LabelPosition.{LabelPosition}
-use Rattle.elements.specs.declared.line_color.LineColor.the-variants.{Black}
+use Rattle.elements.specs.declared.FieldOrientation.the-variants.{Normal}
+use Rattle.elements.specs.declared.LabelElement.{LabelElement}
+use Rattle.elements.specs.declared.LabelElement.the-variants.{Text, GraphicBox, DiagonalLine, GraphicField}
+use Rattle.elements.specs.declared.LabelPosition.{LabelPosition}
+use Rattle.elements.specs.declared.LineColor.the-variants.{Black}
 use Rattle.whole.specs.Step.{State, state, Answer, element, cleared, printed, ended, refused, step}
 use Rattle.whole.specs.Trace.{left}
 use Rattle.grammar.specs.Epl.{origin, epl}

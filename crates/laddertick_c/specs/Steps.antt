@@ -1,23 +1,14 @@
--- The flat states and answers of the static library for those of the theory (01, "Forms that change").
-use Rattle.elements.specs.declared.label_element.LabelElement.{LabelElement}
-use Rattle.elements.specs.declared.label_position.LabelPosition.{LabelPosition}
+-- The flat answers of the static library for those of the theory (01, "Forms that change").
+use Rattle.elements.specs.declared.LabelElement.{LabelElement}
+use Rattle.elements.specs.declared.LabelPosition.{LabelPosition}
+use Rattle.elements.specs.declared.walk_state.WalkState.{WalkState}
 use Rattle.whole.specs.Step.{State, Answer, element, cleared, printed, ended, refused}
-use Rattle.elements.specs.Walk.{fresh}
-use Rattle.walk.specs.Steps.{stateOf}
 use Rattle.flat.specs.Flat.{event, flatElement}
 use Rattle.flat.specs.declared.answer.Answer as flat
-use Rattle.flat.specs.declared.answer.Walk.{Walk}
 
 -- "The state is the place, the reference and the pending count"
-abbrev pub stateOfWalk : Walk → State LabelPosition
-stateOfWalk w = record { place = w .place; ref = record { x = w .x; y = w .y }; pending = w .pending }
-
-abbrev pub walkOf : State LabelPosition → Walk
-walkOf st = record { place = st .place; x = st .ref .x; y = st .ref .y; pending = st .pending }
-
--- "the fresh state is place 0, reference 0,0, pending count 0"
-abbrev pub freshWalk : Walk
-freshWalk = walkOf (stateOf fresh)
+abbrev pub walkOf : State LabelPosition → WalkState
+walkOf st = record { place = st .place; reference = st .ref; pending = st .pending }
 
 -- "each step answers an element, a clear, a print, the end or a refusal": an element as 1 to 16, a clear as 17, a print as 0 ("00: element count"),
 -- the end as 18, a refusal as 255 ("ff, its number (1 byte), its place"); each with its state

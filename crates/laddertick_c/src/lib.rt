@@ -7,42 +7,39 @@ ghost use Rattle.decoding.specs.Decoding as decoding;
 ghost use Rattle.decoding.specs.Written.{givenFlat};
 ghost use Rattle.format.specs.Normalise as normalise;
 ghost use Rattle.frames.specs.Listing as listing;
-ghost use Rattle.laddertick_c.specs.Steps.{freshWalk, stateOfWalk, flatOf};
+ghost use Rattle.elements.specs.Walk.{fresh};
+ghost use Rattle.walk.specs.Steps.{stateOf};
+ghost use Rattle.laddertick_c.specs.Steps.{flatOf};
 
 pub mod steps;
 pub mod written;
 
 use crate::steps::flat_step;
-use crate::steps::state_of;
 use crate::written::of_filled;
 use decoding::data::decode;
 use decoding::written::Written;
-use elements::data_span::DataSpan;
+use elements::DataSpan;
 use flat::answer::Answer;
-use flat::answer::Walk;
+use laddertick::WalkState;
 use laddertick::list;
 use laddertick::normalise;
+use laddertick::start;
 use laddertick::step;
 
 // The state before the first byte.
 #[no_mangle]
-pub extern "C" fn laddertick_start() -> Walk
-    ensures { λ r. ⌜ r ≡ freshWalk ⌝ }
+pub extern "C" fn laddertick_start() -> WalkState
+    ensures { λ r. ⌜ r ≡ fresh ⌝ }
 {
-    Walk {
-        place: 0,
-        x: 0,
-        y: 0,
-        pending: 0,
-    }
+    start()
 }
 
 // One step from any state: an element, a clear, a print, the end, or a refusal with the state as given.
 #[no_mangle]
-pub extern "C" fn laddertick_step(input: &[u8], walk: Walk) -> Answer
-    ensures { λ r. ⌜ r ≡ flatOf (theory.step epl (now (input .entry)) (stateOfWalk walk)) ⌝ }
+pub extern "C" fn laddertick_step(input: &[u8], walk: WalkState) -> Answer
+    ensures { λ r. ⌜ r ≡ flatOf (theory.step epl (now (input .entry)) (stateOf walk)) ⌝ }
 {
-    flat_step(step(input, state_of(walk)))
+    flat_step(step(input, walk))
 }
 
 // What the len bytes at start are decoded to, as far as the input goes, from the start of out; or a refusal that leaves out as it came.

@@ -1,6 +1,6 @@
 // The listing program: standard input to frames, one a line. Its buffer holds 16 bytes for each byte that it reads, which is always enough (`never-short`).
 use element_frames::data::part;
-use elements::data_span::DataSpan;
+use elements::DataSpan;
 use frames::printing::print_listing;
 
 fn main() {

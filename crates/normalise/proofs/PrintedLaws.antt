@@ -7,9 +7,7 @@ use lib.ListN.{length}
 use borrow.Author.Tests.{le-ltb}
 use Rattle.grammar.specs.Normal.{normalised}
 use Rattle.grammar.proofs.NormalLaws.{length-normalised-le}
-use Rattle.frames.specs.Printing.{printed}
 use Rattle.normalise.specs.Printed.{printedOf}
 
 pub never-15 : (s : List ℕ) → length s ≤ 65536 → printedOf s 131072 ≡ normalised s
-unfolding printed
 never-15 s h = simp (le-ltb 65536 (length s) h, le-ltb 16777216 (length s) (omega arith), le-ltb 131072 (length (normalised s)) (omega (arith, length-normalised-le s)))

@@ -3,7 +3,7 @@ ghost use lib.ListN.{length};
 ghost use Rattle.text.specs.Wrote.{Put};
 ghost use Rattle.normalise.specs.Printed.{printedOf};
 use element_frames::data::part;
-use elements::data_span::DataSpan;
+use elements::DataSpan;
 use elements::refusal::Refusal;
 use frames::printing::PROGRAM_MAX;
 use frames::printing::put_answer;
@@ -27,13 +27,10 @@ fn all(input: &mut [u8], out: &mut [u8]) {
     io::write_all(1, part(out, DataSpan { start: 0, len: k }));
 }
 
-// The normalised text of input, or the one frame ff of a refusal, from the start of out; nothing where out cannot hold a refusal. Gives its length.
+// The normalised text of input, or the one frame ff of a refusal, from the start of out; nothing where out cannot hold the refusal. Gives its length.
 fn print_normalised(input: &[u8], out: &mut [u8]) -> usize
     ensures { λ r. ⌜ Put (now (out .exit)) (now (out .entry)) 0 (printedOf (now (input .entry)) (length (now (out .entry)))) r ⌝ }
 {
-    if out.len() < 13 {
-        return 0;
-    }
     if PROGRAM_MAX < input.len() {
         return put_answer(out, Filled::Refused(Refusal::InputTooLong, 0));
     }

@@ -12,11 +12,11 @@ use lib.Seq.{drop-drop}
 use borrow.Author.Tests.{eqb-true, leb-true, leb-false, ltb-true, ltb-false}
 use Rattle.text.specs.Class.{isDigit}
 use Rattle.text.specs.Fields.{indexOf, before, after}
-use Rattle.text.specs.Int.{maxZ}
-use Rattle.text.specs.Number.{numberSpelled, fieldOr}
+use Rattle.numbers.specs.Int.{maxZ}
+use Rattle.numbers.specs.Number.{numberSpelled, fieldOr}
 use Rattle.text.proofs.BoolLaws.{test, and-both, within-high}
 use Rattle.text.proofs.FieldsLaws.{index-le}
-use Rattle.text.proofs.PlainLaws.{field-digits, index-digit, index-end, index-here, value-digit, value-end}
+use Rattle.numbers.proofs.PlainLaws.{field-digits, index-digit, index-end, index-here, value-digit, value-end}
 use Rattle.parameters.specs.Params.{numberAt, sizeAt, pointAt, placeOf, oneDigit, numberFrom, sizeFrom, pointFrom, Ran}
 use Rattle.parameters.specs.declared.params.Digits.{Digits}
 use Rattle.parameters.specs.declared.field_reader.Numbered.{Numbered}

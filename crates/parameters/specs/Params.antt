@@ -10,9 +10,9 @@ use Rattle.text.specs.Blank.{trim}
 use Rattle.text.specs.Class.{isDigit}
 use Rattle.text.specs.Fields.{indexOf, before, after, same}
 use Rattle.text.specs.Utf8.{within}
-use Rattle.text.specs.Int.{maxZ}
-use Rattle.text.specs.Number.{valueFrom, fieldOr}
-use Rattle.elements.specs.declared.label_position.LabelPosition.{LabelPosition}
+use Rattle.numbers.specs.Int.{maxZ}
+use Rattle.numbers.specs.Number.{valueFrom, fieldOr}
+use Rattle.elements.specs.declared.LabelPosition.{LabelPosition}
 use Rattle.parameters.specs.declared.field_reader.Numbered.{Numbered}
 use Rattle.parameters.specs.declared.params.Digits.{Digits}
 use Rattle.parameters.specs.declared.params.Pointed.{Pointed}

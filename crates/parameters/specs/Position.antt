@@ -1,10 +1,10 @@
 -- 01, "Grammar": "The reference is added to every position"; 13 where a sum is outside 32 bits.
 use lib.IntN.{ℤ, _+ℤ_}
-use Rattle.text.specs.Int.{checked}
-use Rattle.text.specs.declared.int.Checked.{Checked}
-use Rattle.text.specs.declared.int.Checked.the-variants.{Fits, Outside}
-use Rattle.elements.specs.declared.label_position.LabelPosition.{LabelPosition}
-use Rattle.elements.specs.declared.label_element.LabelElement.{LabelElement}
+use Rattle.numbers.specs.Int.{checked}
+use Rattle.numbers.specs.declared.int.Checked.{Checked}
+use Rattle.numbers.specs.declared.int.Checked.the-variants.{Fits, Outside}
+use Rattle.elements.specs.declared.LabelPosition.{LabelPosition}
+use Rattle.elements.specs.declared.LabelElement.{LabelElement}
 use Rattle.elements.specs.declared.refusal.Refusal.the-variants as refusal
 use Rattle.parameters.specs.declared.position.Placed.{Placed}
 use Rattle.parameters.specs.declared.position.Placed.the-variants as placing

@@ -1,9 +1,9 @@
 -- Rotations (01, "Grammar").
 use mathlib.Core.Bool.{cond}
 use lib.IntN.{ℤ, pos}
-use Rattle.text.specs.Int.{eqZ}
-use Rattle.elements.specs.declared.field_orientation.FieldOrientation.{FieldOrientation}
-use Rattle.elements.specs.declared.field_orientation.FieldOrientation.the-variants.{Normal, Rotated90, Rotated180, Rotated270}
+use Rattle.numbers.specs.Int.{eqZ}
+use Rattle.elements.specs.declared.FieldOrientation.{FieldOrientation}
+use Rattle.elements.specs.declared.FieldOrientation.the-variants.{Normal, Rotated90, Rotated180, Rotated270}
 
 -- "Rotations 1, 2, 3 are quarter turns, others 0"
 unfoldable pub rotationOf : ℤ → FieldOrientation

@@ -5,8 +5,8 @@ ghost use mathlib.Core.Path.{_≡_};
 ghost use Prim.Native.Nat.{_≤_};
 ghost use lib.ListN.{length, drop};
 ghost use Rattle.parameters.specs.Params.{numberFrom};
-use text::number::number_or;
-use text::scan::find;
+use bytes::scan::find;
+use numbers::number::number_or;
 
 // A number field's value, and the place of what follows its comma.
 pub struct Numbered {

@@ -12,11 +12,11 @@ use crate::field_reader::Numbered;
 use crate::field_reader::new;
 use crate::field_reader::next_number;
 use crate::field_reader::rest;
-use elements::label_position::LabelPosition;
-use text::blank::trim;
-use text::class::is_digit;
-use text::fields::first_field;
-use text::int::max;
+use bytes::class::is_digit;
+use bytes::fields::first_field;
+use elements::LabelPosition;
+use numbers::blank::trim;
+use numbers::int::max;
 
 // The number in the field at a place, or the default.
 pub fn field_from(s: &[u8], at: usize, default: i32) -> Numbered

@@ -1,9 +1,9 @@
 // A position and the reference point (01, "Grammar": "The reference is added to every position").
 ghost use mathlib.Core.Path.{_≡_};
 ghost use Rattle.parameters.specs.Position.{placed};
-use elements::label_position::LabelPosition;
-use text::int::Checked;
-use text::int::checked_add;
+use elements::LabelPosition;
+use numbers::int::Checked;
+use numbers::int::checked_add;
 
 pub enum Placed {
     At(LabelPosition),

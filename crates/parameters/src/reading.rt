@@ -1,6 +1,6 @@
 // What one line says.
-use elements::label_element::LabelElement;
-use elements::label_position::LabelPosition;
+use elements::LabelElement;
+use elements::LabelPosition;
 use elements::refusal::Refusal;
 
 pub enum Reading {

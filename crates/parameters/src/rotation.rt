@@ -1,7 +1,7 @@
 // Rotations.
 ghost use mathlib.Core.Path.{_≡_};
 ghost use Rattle.parameters.specs.Rotation.{rotationOf};
-use elements::field_orientation::FieldOrientation;
+use elements::FieldOrientation;
 
 // 1, 2, 3 are quarter turns, others none.
 pub fn epl_rotation(rotation: i32) -> FieldOrientation

@@ -6,7 +6,7 @@ use lib.Dec.{eqb}
 use lib.ListN.{getD, drop}
 use Rattle.text.specs.Class.{isDigit, allDigits}
 use Rattle.text.specs.Fields.{same}
-use Rattle.elements.specs.declared.line_color.LineColor.the-variants.{Black, White}
+use Rattle.elements.specs.declared.LineColor.the-variants.{Black, White}
 use Rattle.spelling.specs.declared.command.Command.{Command}
 use Rattle.spelling.specs.declared.command.Command.the-variants.{Clear, Reference, Data, Line, Diagonal, Box, Print, Other}
 use Rattle.spelling.specs.declared.command.DataCommand.the-variants.{Text, Barcode, Barcode2d}

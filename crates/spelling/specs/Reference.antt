@@ -6,8 +6,8 @@ use lib.Dec.{eqb}
 use lib.IntN.{pos}
 use lib.ListN.{length}
 use Rattle.text.specs.Fields.{indexOf, before, after}
-use Rattle.text.specs.Number.{fieldOr}
-use Rattle.elements.specs.declared.label_position.LabelPosition.{LabelPosition}
+use Rattle.numbers.specs.Number.{fieldOr}
+use Rattle.elements.specs.declared.LabelPosition.{LabelPosition}
 
 unfoldable pub referenceOf : List ℕ → LabelPosition → LabelPosition
 referenceOf s r =

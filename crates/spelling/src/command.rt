@@ -3,10 +3,10 @@ ghost use mathlib.Core.Path.{_≡_};
 ghost use mathlib.Core.List.{[], _∷_};
 ghost use lib.ListN.{getD};
 ghost use Rattle.spelling.specs.Command.{isReference, isPrint, commandOf};
-use elements::line_color::LineColor;
+use bytes::class::all_digits;
+use bytes::class::is_digit;
+use elements::LineColor;
 use parameters::params::tail;
-use text::class::all_digits;
-use text::class::is_digit;
 
 // The commands that have data between quotes: `A`, `B`, `b`.
 pub enum DataCommand {

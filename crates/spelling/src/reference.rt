@@ -1,11 +1,11 @@
 // `R`: the reference point.
 ghost use mathlib.Core.Path.{_≡_};
 ghost use Rattle.spelling.specs.Reference.{referenceOf};
-use elements::label_position::LabelPosition;
+use bytes::fields::after_field;
+use bytes::scan::find;
+use elements::LabelPosition;
+use numbers::number::number_or;
 use parameters::params::field_from;
-use text::fields::after_field;
-use text::number::number_or;
-use text::scan::find;
 
 // The reference that the parameters behind `R` set. x, then all after the first comma as y; without a comma y stays.
 // So R7 keeps y, and R7, and R7,2,3 give y 0: 2,3 is no number.

@@ -12,11 +12,6 @@ pub mod DropSteps
 pub mod ScanLaws
 pub mod FieldsLaws
 pub mod ClassLaws
-pub mod IntLaws
-pub mod TwosLaws
-pub mod NanLaws
-pub mod NumberLaws
-pub mod PlainLaws
 pub mod BlankSteps
 pub mod Utf8Steps
 pub mod Cases

@@ -6,10 +6,6 @@ pub mod Blank
 pub mod Class
 -- 01, "Grammar": fields, and data between quotes
 pub mod Fields
--- 01, "Who causes which number", 13: sums, differences, absolute values and products at 32 bits
-pub mod Int
--- 01, "Grammar": "A number field"
-pub mod Number
 -- a search by places
 pub mod Scan
 -- bytes stored in a row, and the place after them

@@ -5,7 +5,7 @@ use Prim.Native.Nat.{ℕ}
 use lib.Dec.{lit<}
 use lib.IntN.{pos, negsuc}
 use lib.Ieee.{Float, binary64, ofInt}
-use Rattle.elements.specs.declared.field_orientation.FieldOrientation.the-variants.{Normal}
+use Rattle.elements.specs.declared.FieldOrientation.the-variants.{Normal}
 use Rattle.parameters.specs.Rotation.{rotationOf}
 use Rattle.texts.specs.declared.fonts.Cell.{Cell}
 use Rattle.texts.specs.declared.fonts.Scaled.{Scaled}

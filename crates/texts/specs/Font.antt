@@ -2,7 +2,7 @@
 use mathlib.Core.Bool.{cond}
 use lib.IntN.{ℤ, pos, _*ℤ_}
 use lib.Ieee.{Float, binary64, ofInt, mul, div}
-use Rattle.text.specs.Int.{checked, eqZ}
+use Rattle.numbers.specs.Int.{checked, eqZ}
 use Rattle.texts.specs.declared.fonts.Cell.{Cell}
 use Rattle.texts.specs.declared.fonts.Scaled.{Scaled}
 use Rattle.texts.specs.declared.fonts.Scaled.the-variants.{Font, Outside}

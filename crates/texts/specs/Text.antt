@@ -6,9 +6,9 @@ use lib.Dec.{ltb}
 use lib.IntN.{pos}
 use lib.ListN.{length}
 use Rattle.text.specs.Fields.{after, fields}
-use Rattle.elements.specs.declared.data_span.DataSpan.{DataSpan}
-use Rattle.elements.specs.declared.label_element.LabelElement.the-variants as element
-use Rattle.elements.specs.declared.label_position.LabelPosition.{LabelPosition}
+use Rattle.elements.specs.declared.DataSpan.{DataSpan}
+use Rattle.elements.specs.declared.LabelElement.the-variants as element
+use Rattle.elements.specs.declared.LabelPosition.{LabelPosition}
 use Rattle.elements.specs.declared.refusal.Refusal.the-variants as refusal
 use Rattle.texts.specs.declared.fonts.Scaled.{Scaled}
 use Rattle.texts.specs.declared.fonts.Scaled.the-variants as scaled

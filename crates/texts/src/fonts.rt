@@ -1,11 +1,11 @@
 // EPL's built-in fonts: a cell in dots for each number, scaled by two multipliers.
 ghost use mathlib.Core.Path.{_≡_};
 ghost use Rattle.texts.specs.Font.{cellOf, widthOf, fontOf};
-use elements::font::FontInfo;
+use elements::FontInfo;
+use numbers::int::Checked;
+use numbers::int::checked_mul;
+use numbers::int::equal;
 use parameters::rotation::epl_rotation;
-use text::int::Checked;
-use text::int::checked_mul;
-use text::int::equal;
 
 pub struct Cell {
     pub width: i32,

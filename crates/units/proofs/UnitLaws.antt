@@ -6,9 +6,9 @@ use native.Mathlib.Omega.{arith}
 use lib.ListN.{length}
 use Rattle.text.specs.Blank.{trim}
 use Rattle.text.proofs.BoolLaws.{test}
-use Rattle.elements.specs.declared.data_span.DataSpan.{DataSpan}
-use Rattle.elements.specs.declared.label_element.LabelElement.{LabelElement}
-use Rattle.elements.specs.declared.label_position.LabelPosition.{LabelPosition}
+use Rattle.elements.specs.declared.DataSpan.{DataSpan}
+use Rattle.elements.specs.declared.LabelElement.{LabelElement}
+use Rattle.elements.specs.declared.LabelPosition.{LabelPosition}
 use Rattle.elements.specs.Spans.{spans, AllIn, In}
 use Rattle.parameters.specs.declared.reading.Reading.{Reading}
 use Rattle.parameters.specs.declared.reading.Reading.the-variants as reading

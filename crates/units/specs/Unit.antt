@@ -1,6 +1,6 @@
 -- What a unit does at a reference, in the theory's words, with 01's numbers for its refusals.
-use Rattle.elements.specs.declared.label_element.LabelElement.{LabelElement}
-use Rattle.elements.specs.declared.label_position.LabelPosition.{LabelPosition}
+use Rattle.elements.specs.declared.LabelElement.{LabelElement}
+use Rattle.elements.specs.declared.LabelPosition.{LabelPosition}
 use Rattle.elements.specs.Refusals.{numberOf}
 use Rattle.whole.specs.Reading as theory
 use Rattle.grammar.specs.Epl.{origin}

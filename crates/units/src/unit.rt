@@ -8,14 +8,14 @@ ghost use Rattle.grammar.specs.Turn.{sizeBy, lineTurn};
 ghost use Rattle.text.specs.Fields.{indexOf};
 ghost use lib.ListN.{take};
 ghost use Rattle.units.specs.Unit.{unitOf};
+use bytes::scan::find;
 use commands::line::read_line;
-use elements::label_element::LabelElement;
-use elements::label_position::LabelPosition;
+use elements::LabelElement;
+use elements::LabelPosition;
 use elements::refusal::Refusal;
 use graphics::gw_span::Block;
 use graphics::gw_span::read_block;
 use parameters::reading::Reading;
-use text::scan::find;
 
 // What stands first: nothing, a fault, or a unit of that many bytes with what it does.
 pub enum UnitReading {

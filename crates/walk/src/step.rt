@@ -5,7 +5,7 @@ ghost use Rattle.grammar.specs.Epl.{epl};
 ghost use Rattle.walk.specs.Steps.{stateOf, answerOf};
 use crate::answer::Printed;
 use crate::answer::Step;
-use elements::label_position::LabelPosition;
+use elements::LabelPosition;
 use elements::refusal::INPUT_MAX;
 use elements::refusal::Refusal;
 use elements::walk_state::WalkState;

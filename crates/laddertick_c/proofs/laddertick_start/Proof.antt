@@ -1,10 +1,13 @@
 -- `laddertick_c::laddertick_start` meets its contract. Assumes nothing.
-use mathlib.Core.Path.{refl}
+use borrow.Author.Needs.{needs}
 use Rattle.laddertick_c.proofs.laddertick_start.Statement.{statement}
 use Rattle.laddertick_c.proofs.laddertick_start.Tie as tie
 
+start-requires : tie.Need-start-requires
+start-requires c κs = search needs
+
 returns : tie.Need-returns
-returns c = refl
+returns c = c .start .ensures
 
 pub laddertick-start-spec : {M : Type 1} → statement M
-laddertick-start-spec = tie.close (tie.spec returns)
+laddertick-start-spec = tie.close (tie.spec start-requires returns)

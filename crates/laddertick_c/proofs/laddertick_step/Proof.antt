@@ -5,9 +5,6 @@ use borrow.Author.Needs.{needs}
 use Rattle.laddertick_c.proofs.laddertick_step.Statement.{statement}
 use Rattle.laddertick_c.proofs.laddertick_step.Tie as tie
 
-state-of-requires : tie.Need-state-of-requires
-state-of-requires c κs = search needs
-
 step-requires : tie.Need-step-requires
 step-requires c κs = search needs
 
@@ -15,7 +12,7 @@ flat-step-requires : tie.Need-flat-step-requires
 flat-step-requires c κs = search needs
 
 returns : tie.Need-returns
-returns c = rw (← c .before .before .state-of .ensures) (c .flat-step .ensures ∙ ap flatOf (c .before .step .ensures))
+returns c = c .flat-step .ensures ∙ ap flatOf (c .before .step .ensures)
 
 pub laddertick-step-spec : {M : Type 1} → statement M
-laddertick-step-spec = tie.close (tie.spec state-of-requires step-requires flat-step-requires returns)
+laddertick-step-spec = tie.close (tie.spec step-requires flat-step-requires returns)

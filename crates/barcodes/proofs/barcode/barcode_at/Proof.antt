@@ -3,7 +3,7 @@
 use mathlib.Core.Path.{_≡_, sym, _∙_}
 use mathlib.Core.Bool.{true}
 use borrow.Author.Tests.{not-true, not-false}
-use Rattle.text.proofs.IntLaws.{back32}
+use Rattle.numbers.proofs.IntLaws.{back32}
 use Rattle.parameters.specs.Position.{placed}
 use Rattle.barcodes.specs.Barcode.{isListed, barcodeAt}
 use borrow.Author.Needs.{needs}

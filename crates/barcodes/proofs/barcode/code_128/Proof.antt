@@ -1,6 +1,6 @@
 -- `barcodes::barcode::code_128` meets its contract: height and narrow bar are read back from their bits.
 -- Assumes nothing.
-use Rattle.text.proofs.IntLaws.{back32}
+use Rattle.numbers.proofs.IntLaws.{back32}
 use Rattle.barcodes.specs.Barcode.{code128}
 use Rattle.barcodes.proofs.barcode.code_128.Statement.{statement}
 use Rattle.barcodes.proofs.barcode.code_128.Tie as tie

@@ -1,7 +1,7 @@
 -- `barcodes::barcode::code_39` meets its contract: the bars are read back from their bits, and the ratio is that of `bar_ratio`.
 -- Assumes nothing.
 use borrow.Author.Needs.{needs}
-use Rattle.text.proofs.IntLaws.{back32}
+use Rattle.numbers.proofs.IntLaws.{back32}
 use Rattle.barcodes.specs.Barcode.{code39}
 use Rattle.barcodes.proofs.barcode.code_39.Statement.{statement}
 use Rattle.barcodes.proofs.barcode.code_39.Tie as tie

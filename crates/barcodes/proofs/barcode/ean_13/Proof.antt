@@ -1,6 +1,6 @@
 -- `barcodes::barcode::ean_13` meets its contract: height and narrow bar are read back from their bits.
 -- Assumes nothing.
-use Rattle.text.proofs.IntLaws.{back32}
+use Rattle.numbers.proofs.IntLaws.{back32}
 use Rattle.barcodes.specs.Barcode.{ean13}
 use Rattle.barcodes.proofs.barcode.ean_13.Statement.{statement}
 use Rattle.barcodes.proofs.barcode.ean_13.Tie as tie

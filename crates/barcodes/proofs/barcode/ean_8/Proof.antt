@@ -1,6 +1,6 @@
 -- `barcodes::barcode::ean_8` meets its contract: height and narrow bar are read back from their bits.
 -- Assumes nothing.
-use Rattle.text.proofs.IntLaws.{back32}
+use Rattle.numbers.proofs.IntLaws.{back32}
 use Rattle.barcodes.specs.Barcode.{ean8}
 use Rattle.barcodes.proofs.barcode.ean_8.Statement.{statement}
 use Rattle.barcodes.proofs.barcode.ean_8.Tie as tie

@@ -1,6 +1,6 @@
 -- `barcodes::barcode::upc_a` meets its contract: height and narrow bar are read back from their bits.
 -- Assumes nothing.
-use Rattle.text.proofs.IntLaws.{back32}
+use Rattle.numbers.proofs.IntLaws.{back32}
 use Rattle.barcodes.specs.Barcode.{upcA}
 use Rattle.barcodes.proofs.barcode.upc_a.Statement.{statement}
 use Rattle.barcodes.proofs.barcode.upc_a.Tie as tie

@@ -7,8 +7,8 @@ use lib.IntN.{ℤ, pos}
 use mir.Syntax.{w32}
 use mir.Val.{ofZ, toZ}
 use mir.Facts.{toZ-ofZ}
-use Rattle.text.proofs.IntLaws.{bits-is, bits-not}
-use Rattle.text.specs.Int.{eqZ}
+use Rattle.numbers.proofs.IntLaws.{bits-is, bits-not}
+use Rattle.numbers.specs.Int.{eqZ}
 use Rattle.barcodes_2d.specs.Barcode2d.{aztecSize}
 use Rattle.barcodes_2d.proofs.Barcode2dLaws.{size-tests, lt-more}
 use Rattle.barcodes_2d.proofs.barcode_2d.aztec_size.Statement.{statement}

@@ -1,7 +1,7 @@
 -- `barcodes_2d::barcode_2d::datamatrix_options` meets its contract, field by field.
 -- Assumes nothing.
 use borrow.Author.Needs.{needs}
-use Rattle.text.proofs.IntLaws.{back32}
+use Rattle.numbers.proofs.IntLaws.{back32}
 use Rattle.barcodes_2d.specs.Barcode2d.{datamatrixOf}
 use Rattle.barcodes_2d.proofs.barcode_2d.datamatrix_options.Statement.{statement}
 use Rattle.barcodes_2d.proofs.barcode_2d.datamatrix_options.Tie as tie

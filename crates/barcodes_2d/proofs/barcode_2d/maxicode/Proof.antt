@@ -1,7 +1,7 @@
 -- `barcodes_2d::barcode_2d::maxicode` meets its contract, by where it stands.
 -- Assumes nothing.
 use borrow.Author.Needs.{needs}
-use Rattle.text.proofs.IntLaws.{back32}
+use Rattle.numbers.proofs.IntLaws.{back32}
 use Rattle.barcodes_2d.specs.Barcode2d.{maxicodeReading}
 use Rattle.barcodes_2d.proofs.barcode_2d.maxicode.Statement.{statement}
 use Rattle.barcodes_2d.proofs.barcode_2d.maxicode.Tie as tie

@@ -8,8 +8,8 @@ use lib.IntN.{ℤ, pos}
 use mir.Syntax.{w32}
 use mir.Val.{ofZ, toZ}
 use borrow.Author.Needs.{needs}
-use Rattle.text.proofs.IntLaws.{back32, bits-is, bits-not}
-use Rattle.text.specs.Int.{eqZ}
+use Rattle.numbers.proofs.IntLaws.{back32, bits-is, bits-not}
+use Rattle.numbers.specs.Int.{eqZ}
 use Rattle.barcodes_2d.specs.Barcode2d.{isMode, modeOf}
 use Rattle.barcodes_2d.specs.Options.{optionsOf, lastCount}
 use Rattle.barcodes_2d.proofs.Barcode2dLaws.{mode-tests}

@@ -1,7 +1,7 @@
 -- `barcodes_2d::barcode_2d::parse_epl_2d_barcode` meets its contract, by the number of fields, then the calls in a row.
 -- Assumes nothing.
 use mathlib.Core.Path.{refl, _∙_}
-use Rattle.text.proofs.IntLaws.{back32}
+use Rattle.numbers.proofs.IntLaws.{back32}
 use Rattle.parameters.proofs.ParamsLaws.{too-few, enough}
 use Rattle.parameters.proofs.PlaceLaws.{point-value, point-next}
 use Rattle.barcodes_2d.specs.Barcode2d.{barcode2dReading}

@@ -2,7 +2,7 @@
 -- Assumes nothing.
 use mathlib.Core.Path.{_∙_}
 use borrow.Author.Needs.{needs}
-use Rattle.text.proofs.IntLaws.{back32}
+use Rattle.numbers.proofs.IntLaws.{back32}
 use Rattle.barcodes_2d.specs.Barcode2d.{pdf417ModuleWidth}
 use Rattle.barcodes_2d.proofs.barcode_2d.pdf417_module_width.Statement.{statement}
 use Rattle.barcodes_2d.proofs.barcode_2d.pdf417_module_width.Tie as tie

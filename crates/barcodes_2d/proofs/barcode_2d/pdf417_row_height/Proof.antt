@@ -5,7 +5,7 @@ use mir.Syntax.{w32}
 use mir.Val.{ofZ, toZ}
 use mir.Facts.{toZ-ofZ}
 use borrow.Author.Needs.{needs}
-use Rattle.text.proofs.IntLaws.{back32}
+use Rattle.numbers.proofs.IntLaws.{back32}
 use Rattle.barcodes_2d.specs.Barcode2d.{pdf417ModuleWidth, pdf417RowHeight}
 use Rattle.barcodes_2d.proofs.Barcode2dLaws.{width-le, four-fits}
 use Rattle.barcodes_2d.proofs.barcode_2d.pdf417_row_height.Statement.{statement}

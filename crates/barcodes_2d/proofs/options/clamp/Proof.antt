@@ -4,8 +4,8 @@ use mathlib.Core.Path.{ap, _∙_}
 use lib.IntN.{ℤ}
 use mir.Facts.{toZ-ofZ}
 use borrow.Author.Needs.{needs}
-use Rattle.text.proofs.IntLaws.{back32}
-use Rattle.text.specs.Int.{minZ}
+use Rattle.numbers.proofs.IntLaws.{back32}
+use Rattle.numbers.specs.Int.{minZ}
 use Rattle.barcodes_2d.proofs.options.clamp.Statement.{statement}
 use Rattle.barcodes_2d.proofs.options.clamp.Tie as tie
 

@@ -4,8 +4,8 @@ use mathlib.Core.Path.{_≡_, sym, ap, _∙_}
 use mathlib.Core.List.{[]}
 use mir.Facts.{toZ-ofZ}
 use borrow.Author.Needs.{needs}
-use Rattle.text.proofs.IntLaws.{back32}
-use Rattle.text.specs.Number.{numberSpelled}
+use Rattle.numbers.proofs.IntLaws.{back32}
+use Rattle.numbers.specs.Number.{numberSpelled}
 use Rattle.barcodes_2d.specs.Options.{lastOf, optionsOf, clampedOr, lastClamped}
 use Rattle.barcodes_2d.specs.declared.options.Wanted.the-variants as wanted
 use Rattle.barcodes_2d.proofs.options.last_clamped.Statement.{statement}

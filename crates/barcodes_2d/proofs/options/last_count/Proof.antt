@@ -3,8 +3,8 @@
 use mathlib.Core.Path.{ap, _∙_}
 use lib.IntN.{pos}
 use borrow.Author.Needs.{needs}
-use Rattle.text.proofs.IntLaws.{back32}
-use Rattle.text.specs.Number.{numberSpelled, numberOr}
+use Rattle.numbers.proofs.IntLaws.{back32}
+use Rattle.numbers.specs.Number.{numberSpelled, numberOr}
 use Rattle.barcodes_2d.specs.Options.{lastCount}
 use Rattle.barcodes_2d.proofs.options.last_count.Statement.{statement}
 use Rattle.barcodes_2d.proofs.options.last_count.Tie as tie

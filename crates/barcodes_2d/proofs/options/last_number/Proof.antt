@@ -3,8 +3,8 @@
 use mathlib.Core.Path.{ap, _∙_}
 use mir.Facts.{toZ-ofZ}
 use borrow.Author.Needs.{needs}
-use Rattle.text.proofs.IntLaws.{back32}
-use Rattle.text.specs.Number.{numberSpelled, numberOr}
+use Rattle.numbers.proofs.IntLaws.{back32}
+use Rattle.numbers.specs.Number.{numberSpelled, numberOr}
 use Rattle.barcodes_2d.specs.Options.{lastNumber}
 use Rattle.barcodes_2d.proofs.options.last_number.Statement.{statement}
 use Rattle.barcodes_2d.proofs.options.last_number.Tie as tie

@@ -1,7 +1,7 @@
 -- `draws::draw::boxed` meets its contract: the match tells what was drawn, and its numbers are read back from their bits.
 -- Assumes nothing.
 use mir.Facts.{toZ-ofZ}
-use Rattle.text.proofs.IntLaws.{back32}
+use Rattle.numbers.proofs.IntLaws.{back32}
 use borrow.Author.Needs.{needs}
 use Rattle.draws.proofs.draw.boxed.Statement.{statement}
 use Rattle.draws.proofs.draw.boxed.Tie as tie

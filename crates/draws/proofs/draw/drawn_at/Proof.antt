@@ -1,7 +1,7 @@
 -- `draws::draw::drawn_at` meets its contract: the extents along both axes decide, and then the sums with the reference.
 -- Assumes nothing.
 use mathlib.Core.Path.{_≡_, sym, _∙_}
-use Rattle.text.proofs.IntLaws.{back32}
+use Rattle.numbers.proofs.IntLaws.{back32}
 use Rattle.parameters.specs.Position.{placed}
 use Rattle.draws.specs.Draw.{extentOf, drawnAt}
 use Rattle.draws.specs.declared.draw.Extent.{Extent}

@@ -1,7 +1,7 @@
 -- `draws::draw::line_element` meets its contract: the sums with the reference decide, and `min` gives the thickness.
 -- Assumes nothing.
 use mathlib.Core.Path.{_≡_, sym, _∙_}
-use Rattle.text.proofs.IntLaws.{back32}
+use Rattle.numbers.proofs.IntLaws.{back32}
 use Rattle.parameters.specs.Position.{placed}
 use Rattle.draws.specs.Draw.{lineElement}
 use borrow.Author.Needs.{needs}

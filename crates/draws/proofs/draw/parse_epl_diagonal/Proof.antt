@@ -1,7 +1,7 @@
 -- `draws::draw::parse_epl_diagonal` meets its contract: the number of fields decides, and then the calls compose.
 -- Assumes nothing.
 use mathlib.Core.Path.{_∙_}
-use Rattle.text.proofs.IntLaws.{back32}
+use Rattle.numbers.proofs.IntLaws.{back32}
 use Rattle.parameters.proofs.ParamsLaws.{too-few, enough}
 use Rattle.draws.specs.Draw.{diagonalReading}
 use Rattle.draws.proofs.DrawLaws.{corners-are, five}

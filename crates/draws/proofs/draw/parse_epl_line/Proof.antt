@@ -6,7 +6,7 @@ use Prim.Native.Nat.{ℕ}
 use lib.Dec.{leb}
 use lib.ListN.{length, drop}
 use Rattle.text.specs.Fields.{fields}
-use Rattle.text.proofs.IntLaws.{back32}
+use Rattle.numbers.proofs.IntLaws.{back32}
 use Rattle.parameters.specs.Params.{pointAt}
 use Rattle.parameters.proofs.ParamsLaws.{too-few, enough, afters, reached}
 use Rattle.parameters.proofs.PlaceLaws.{number-value, number-next, size-value, size-next}

@@ -1,7 +1,7 @@
 -- `draws::draw::read_corners` meets its contract: each call reads the field that follows that of the call before.
 -- Assumes nothing.
 use mathlib.Core.Path.{refl}
-use Rattle.text.proofs.IntLaws.{back32}
+use Rattle.numbers.proofs.IntLaws.{back32}
 use Rattle.parameters.specs.Params.{pointAt}
 use Rattle.parameters.proofs.ParamsLaws.{seen-is}
 use Rattle.parameters.proofs.PlaceLaws.{number-value, number-next, size-value, size-next}

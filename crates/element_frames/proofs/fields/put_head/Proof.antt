@@ -1,6 +1,6 @@
 -- `element_frames::fields::put_head` meets its contract.
 -- Assumes nothing.
-use Rattle.text.proofs.IntLaws.{back32}
+use Rattle.numbers.proofs.IntLaws.{back32}
 use Rattle.element_frames.specs.Frame.{head}
 use Rattle.element_frames.proofs.PutLaws.{then}
 use borrow.Author.Needs.{needs}

@@ -1,7 +1,7 @@
 -- `frame_lines::kinds::put_box` meets its contract: the flag of its colour, and its numbers read back from their bits.
 -- Assumes nothing.
 use native.Mathlib.Omega.{arith}
-use Rattle.text.proofs.IntLaws.{back32}
+use Rattle.numbers.proofs.IntLaws.{back32}
 use borrow.Author.Needs.{needs}
 use Rattle.frame_lines.proofs.kinds.put_box.Statement.{statement}
 use Rattle.frame_lines.proofs.kinds.put_box.Tie as tie

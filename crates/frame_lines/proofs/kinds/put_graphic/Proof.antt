@@ -3,7 +3,7 @@
 use mathlib.Core.Path.{ap}
 use native.Mathlib.Omega.{arith}
 use lib.ListN.{length}
-use Rattle.text.proofs.IntLaws.{back32}
+use Rattle.numbers.proofs.IntLaws.{back32}
 use Rattle.element_frames.specs.Frame.{frameOf}
 use Rattle.element_frames.proofs.PutLaws.{then, counted}
 use borrow.Author.Needs.{needs}

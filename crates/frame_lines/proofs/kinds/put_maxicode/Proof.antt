@@ -1,7 +1,7 @@
 -- `frame_lines::kinds::put_maxicode` meets its contract: the runs, one after the other, are the frame.
 -- Assumes nothing.
 use native.Mathlib.Omega.{arith}
-use Rattle.text.proofs.IntLaws.{back32}
+use Rattle.numbers.proofs.IntLaws.{back32}
 use Rattle.element_frames.specs.Frame.{frameOf}
 use Rattle.element_frames.proofs.PutLaws.{then, counted}
 use borrow.Author.Needs.{needs}

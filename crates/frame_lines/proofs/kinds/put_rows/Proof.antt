@@ -1,7 +1,7 @@
 -- `frame_lines::kinds::put_rows` meets its contract: four numbers, one after the other.
 -- Assumes nothing.
 use native.Mathlib.Omega.{arith}
-use Rattle.text.proofs.IntLaws.{back32}
+use Rattle.numbers.proofs.IntLaws.{back32}
 use Rattle.element_frames.specs.Frame.{rowed}
 use Rattle.element_frames.proofs.PutLaws.{then}
 use borrow.Author.Needs.{needs}

@@ -1,7 +1,7 @@
 -- `frame_lines::kinds::put_upce` meets its contract: its numbers read back from their bits.
 -- Assumes nothing.
 use native.Mathlib.Omega.{arith}
-use Rattle.text.proofs.IntLaws.{back32}
+use Rattle.numbers.proofs.IntLaws.{back32}
 use Rattle.element_frames.specs.Frame.{frameOf}
 use borrow.Author.Needs.{needs}
 use Rattle.frame_lines.proofs.kinds.put_upce.Statement.{statement}

@@ -49,26 +49,26 @@ loop-holds c =
 step-requires : tie.Need-step-requires Inv-loop μ-loop
 step-requires c κs = search needs
 
-enum-known-e : tie.Need-enum-known-e Inv-loop μ-loop
-enum-known-e c = search needs
+enum-known-next : tie.Need-enum-known-next Inv-loop μ-loop
+enum-known-next c = search needs
 
 loop-less : tie.Need-loop-less Inv-loop μ-loop
-loop-less c = omega (arith, moved (c .before .before .before) (Element (c .before .e .given .0 .0) (c .before .e .given .0 .1 .0)) (c .before .e .given .1))
+loop-less c = omega (arith, moved (c .before .before .before) (Element (c .before .next .given .0 .0) (c .before .next .given .0 .1 .0)) (c .before .next .given .1))
 
 loop-again : tie.Need-loop-again Inv-loop μ-loop
 loop-again c =
     let d = c .before .before .before in
     let l = d .before .loop in
-    (l .inv .0, after-by (d .before .before .before .before .before .before .args .input .now) (l .here) (d .step .result) (Element (c .before .e .given .0 .0) (c .before .e .given .0 .1 .0)) (d .step .ensures) (c .before .e .given .1) (l .first) (l .inv .1))
+    (l .inv .0, after-by (d .before .before .before .before .before .before .args .input .now) (l .here) (d .step .result) (Element (c .before .next .given .0 .0) (c .before .next .given .0 .1 .0)) (d .step .ensures) (c .before .next .given .1) (l .first) (l .inv .1))
 
-enum-known-next : tie.Need-enum-known-next Inv-loop μ-loop
-enum-known-next c = search needs
+enum-known-next-2 : tie.Need-enum-known-next-2 Inv-loop μ-loop
+enum-known-next-2 c = search needs
 
 loop-less-2 : tie.Need-loop-less-2 Inv-loop μ-loop
-loop-less-2 c = omega (arith, moved (c .before .before .before) (Clear (c .before .next .given .0 .0)) (c .before .next .given .1))
+loop-less-2 c = omega (arith, moved (c .before .before .before) (Clear (c .before .next2 .given .0 .0)) (c .before .next2 .given .1))
 
 loop-again-2 : tie.Need-loop-again-2 Inv-loop μ-loop
-loop-again-2 c = (retold (c .before .before .before .before .loop .inv .0) (rest-is (c .before .before .before) (Clear (c .before .next .given .0 .0)) (c .before .next .given .1)), refl)
+loop-again-2 c = (retold (c .before .before .before .before .loop .inv .0) (rest-is (c .before .before .before) (Clear (c .before .next2 .given .0 .0)) (c .before .next2 .given .1)), refl)
 
 enum-known-p : tie.Need-enum-known-p Inv-loop μ-loop
 enum-known-p c = search needs
@@ -87,14 +87,14 @@ loop-again-3 c =
     let d = c .before .before .before .before .before .before .before in
     (put (d .before .loop .inv .0) (textFrom (d .before .before .before .before .before .before .args .input .now) (c .before .before .before .before .before .p .given .0 .1 .0)) (rest-is d (Print (c .before .before .before .before .before .p .given .0 .0) (c .before .before .before .before .before .p .given .0 .1 .0)) (c .before .before .before .before .before .p .given .1)) (c .before .before .put-label .ensures), refl)
 
-enum-known-next-2 : tie.Need-enum-known-next-2 Inv-loop μ-loop
-enum-known-next-2 c = search needs
+enum-known-next-3 : tie.Need-enum-known-next-3 Inv-loop μ-loop
+enum-known-next-3 c = search needs
 
 same-length : tie.Need-same-length Inv-loop μ-loop
 same-length c = c .before .before .before .before .loop .inv .0 .long
 
 returns : tie.Need-returns Inv-loop μ-loop
-returns c = finish (c .before .before .before .before .loop .inv .0) (rest-is (c .before .before .before) (End (c .before .next2 .given .0 .0)) (c .before .next2 .given .1))
+returns c = finish (c .before .before .before .before .loop .inv .0) (rest-is (c .before .before .before) (End (c .before .next3 .given .0 .0)) (c .before .next3 .given .1))
 
 enum-known-k : tie.Need-enum-known-k Inv-loop μ-loop
 enum-known-k c = search needs
@@ -115,17 +115,17 @@ put-labels-spec =
     start-requires-2
     loop-holds
     step-requires
-    enum-known-e
+    enum-known-next
     loop-less
     loop-again
-    enum-known-next
+    enum-known-next-2
     loop-less-2
     loop-again-2
     enum-known-p
     put-label-requires
     loop-less-3
     loop-again-3
-    enum-known-next-2
+    enum-known-next-3
     same-length
     returns
     enum-known-k

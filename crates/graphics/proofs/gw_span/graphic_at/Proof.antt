@@ -2,7 +2,7 @@
 -- Assumes nothing.
 use mathlib.Core.Path.{_≡_, sym, _∙_}
 use borrow.Author.Needs.{needs}
-use Rattle.text.proofs.IntLaws.{back32}
+use Rattle.numbers.proofs.IntLaws.{back32}
 use Rattle.parameters.specs.Position.{placed}
 use Rattle.graphics.specs.Block.{graphicAt}
 use Rattle.graphics.proofs.gw_span.graphic_at.Statement.{statement}

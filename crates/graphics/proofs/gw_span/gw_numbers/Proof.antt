@@ -1,7 +1,7 @@
 -- `graphics::gw_span::gw_numbers` meets its contract: a number, then what follows its field, four times.
 -- Assumes nothing.
 use borrow.Author.Needs.{needs}
-use Rattle.text.proofs.IntLaws.{back32}
+use Rattle.numbers.proofs.IntLaws.{back32}
 use Rattle.graphics.specs.Block.{gwNumbers}
 use Rattle.graphics.proofs.gw_span.gw_numbers.Statement.{statement}
 use Rattle.graphics.proofs.gw_span.gw_numbers.Tie as tie

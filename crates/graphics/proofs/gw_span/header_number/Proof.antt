@@ -5,8 +5,8 @@ use native.Mathlib.Omega.{arith}
 use lib.IntN.{pos}
 use lib.ListN.{length-take}
 use borrow.Author.Needs.{needs}
-use Rattle.text.specs.Number.{fieldOr}
-use Rattle.text.proofs.IntLaws.{back32}
+use Rattle.numbers.specs.Number.{fieldOr}
+use Rattle.numbers.proofs.IntLaws.{back32}
 use Rattle.graphics.specs.Block.{headerNumber}
 use Rattle.graphics.proofs.gw_span.header_number.Statement.{statement}
 use Rattle.graphics.proofs.gw_span.header_number.Tie as tie

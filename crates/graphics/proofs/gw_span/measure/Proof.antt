@@ -8,7 +8,7 @@ use mir.Syntax.{w32}
 use mir.Val.{ofZ, toZ}
 use borrow.Author.Tests.{lt-ltb, le-ltb}
 use borrow.Author.Needs.{needs}
-use Rattle.text.proofs.IntLaws.{back32}
+use Rattle.numbers.proofs.IntLaws.{back32}
 use Rattle.graphics.specs.Block.{total, measured}
 use Rattle.graphics.proofs.BlockLaws.{size, total-fits}
 use Rattle.graphics.proofs.gw_span.measure.Statement.{statement}

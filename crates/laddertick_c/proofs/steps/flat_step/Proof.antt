@@ -6,17 +6,11 @@ use Rattle.laddertick_c.proofs.steps.flat_step.Tie as tie
 enum-known-a : tie.Need-enum-known-a
 enum-known-a c = search needs
 
-walk-of-requires : tie.Need-walk-of-requires
-walk-of-requires c κs = search needs
-
 flat-element-requires : tie.Need-flat-element-requires
 flat-element-requires c κs = search needs
 
 enum-known-a-2 : tie.Need-enum-known-a-2
 enum-known-a-2 c = search needs
-
-walk-of-requires-2 : tie.Need-walk-of-requires-2
-walk-of-requires-2 c κs = search needs
 
 event-requires : tie.Need-event-requires
 event-requires c κs = search needs
@@ -24,17 +18,11 @@ event-requires c κs = search needs
 enum-known-a-3 : tie.Need-enum-known-a-3
 enum-known-a-3 c = search needs
 
-walk-of-requires-3 : tie.Need-walk-of-requires-3
-walk-of-requires-3 c κs = search needs
-
 event-requires-2 : tie.Need-event-requires-2
 event-requires-2 c κs = search needs
 
 enum-known-a-4 : tie.Need-enum-known-a-4
 enum-known-a-4 c = search needs
-
-walk-of-requires-4 : tie.Need-walk-of-requires-4
-walk-of-requires-4 c κs = search needs
 
 event-requires-3 : tie.Need-event-requires-3
 event-requires-3 c κs = search needs
@@ -45,46 +33,38 @@ enum-known-a-5 c = search needs
 number-requires : tie.Need-number-requires
 number-requires c κs = search needs
 
-walk-of-requires-5 : tie.Need-walk-of-requires-5
-walk-of-requires-5 c κs = search needs
-
 event-requires-4 : tie.Need-event-requires-4
 event-requires-4 c κs = search needs
 
 returns : tie.Need-returns
-returns c = rw (c .before .before .before .a .given .1, ← c .before .walk-of .ensures) (c .flat-element .ensures)
+returns c = rw (c .before .before .a .given .1) (c .flat-element .ensures)
 
 returns-2 : tie.Need-returns-2
-returns-2 c = rw (c .before .before .before .a2 .given .1, ← c .before .walk-of2 .ensures) (c .event .ensures)
+returns-2 c = rw (c .before .before .a2 .given .1) (c .event .ensures)
 
 returns-3 : tie.Need-returns-3
-returns-3 c = rw (c .before .before .before .a3 .given .1, ← c .before .walk-of3 .ensures) (c .event2 .ensures)
+returns-3 c = rw (c .before .before .a3 .given .1) (c .event2 .ensures)
 
 returns-4 : tie.Need-returns-4
-returns-4 c = rw (c .before .before .before .a4 .given .1, ← c .before .walk-of4 .ensures) (c .event3 .ensures)
+returns-4 c = rw (c .before .before .a4 .given .1) (c .event3 .ensures)
 
 returns-5 : tie.Need-returns-5
-returns-5 c = rw (c .before .before .before .before .a5 .given .1, ← c .before .before .number .ensures, ← c .before .walk-of5 .ensures) (c .event4 .ensures)
+returns-5 c = rw (c .before .before .before .a5 .given .1, ← c .before .number .ensures) (c .event4 .ensures)
 
 pub flat-step-spec : {M : Type 1} → statement M
 flat-step-spec =
     tie.close
     (tie.spec
     enum-known-a
-    walk-of-requires
     flat-element-requires
     enum-known-a-2
-    walk-of-requires-2
     event-requires
     enum-known-a-3
-    walk-of-requires-3
     event-requires-2
     enum-known-a-4
-    walk-of-requires-4
     event-requires-3
     enum-known-a-5
     number-requires
-    walk-of-requires-5
     event-requires-4
     returns
     returns-2

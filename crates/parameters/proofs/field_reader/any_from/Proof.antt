@@ -5,9 +5,9 @@ use Prim.Native.Nat.{_+_, _-_}
 use lib.ListN.{take, drop}
 use mir.Facts.{toZ-ofZ}
 use Rattle.text.specs.Fields.{indexOf}
-use Rattle.text.specs.Number.{fieldOr}
+use Rattle.numbers.specs.Number.{fieldOr}
 use Rattle.text.proofs.DropSteps.{rest}
-use Rattle.text.proofs.IntLaws.{back32}
+use Rattle.numbers.proofs.IntLaws.{back32}
 use Rattle.parameters.proofs.PlaceLaws.{any-comma, any-end}
 use borrow.Author.Needs.{needs}
 use Rattle.parameters.proofs.field_reader.any_from.Statement.{statement}

@@ -1,6 +1,6 @@
 -- `parameters::params::point_from` meets its contract: the first field is x, the next y.
 -- Assumes nothing.
-use Rattle.text.proofs.IntLaws.{back32}
+use Rattle.numbers.proofs.IntLaws.{back32}
 use Rattle.parameters.proofs.PlaceLaws.{point-is}
 use borrow.Author.Needs.{needs}
 use Rattle.parameters.proofs.params.point_from.Statement.{statement}

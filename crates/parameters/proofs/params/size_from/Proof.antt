@@ -1,7 +1,7 @@
 -- `parameters::params::size_from` meets its contract: the number, at least 1.
 -- Assumes nothing.
 use mir.Facts.{toZ-ofZ}
-use Rattle.text.proofs.IntLaws.{back32}
+use Rattle.numbers.proofs.IntLaws.{back32}
 use Rattle.parameters.proofs.PlaceLaws.{size-is}
 use borrow.Author.Needs.{needs}
 use Rattle.parameters.proofs.params.size_from.Statement.{statement}

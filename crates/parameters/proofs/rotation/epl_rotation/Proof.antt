@@ -1,7 +1,7 @@
 -- `parameters::rotation::epl_rotation` meets its contract, arm by arm.
 -- Assumes nothing.
 use lib.Dec.{lit<}
-use Rattle.text.proofs.IntLaws.{bits-is, bits-not}
+use Rattle.numbers.proofs.IntLaws.{bits-is, bits-not}
 use Rattle.parameters.specs.Rotation.{rotationOf}
 use Rattle.parameters.proofs.rotation.epl_rotation.Statement.{statement}
 use Rattle.parameters.proofs.rotation.epl_rotation.Tie as tie

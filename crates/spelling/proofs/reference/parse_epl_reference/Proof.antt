@@ -5,8 +5,8 @@ use lib.IntN.{pos}
 use lib.ListN.{length}
 use borrow.Author.Tests.{eq-eqb, ne-eqb}
 use Rattle.text.specs.Fields.{indexOf, before}
-use Rattle.text.specs.Number.{fieldOr}
-use Rattle.text.proofs.IntLaws.{back32}
+use Rattle.numbers.specs.Number.{fieldOr}
+use Rattle.numbers.proofs.IntLaws.{back32}
 use Rattle.parameters.specs.Params.{numberAt}
 use Rattle.parameters.proofs.PlaceLaws.{number-value}
 use Rattle.spelling.specs.Reference.{referenceOf}

@@ -1,8 +1,8 @@
 -- `texts::epl_text::text_element` meets its contract: its position and its font decide, and 13 is the answer where either has none.
 -- Assumes nothing.
 use mathlib.Core.Path.{_≡_, refl, sym, _∙_}
-use Rattle.text.proofs.IntLaws.{back32}
-use Rattle.elements.specs.declared.data_span.DataSpan.{DataSpan}
+use Rattle.numbers.proofs.IntLaws.{back32}
+use Rattle.elements.specs.declared.DataSpan.{DataSpan}
 use Rattle.elements.specs.declared.refusal.Refusal.the-variants.{OutOfRange}
 use Rattle.parameters.specs.declared.position.Placed.the-variants as placing
 use Rattle.parameters.specs.declared.reading.Reading.the-variants.{Refused}

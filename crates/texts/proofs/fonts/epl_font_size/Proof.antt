@@ -1,7 +1,7 @@
 -- `texts::fonts::epl_font_size` meets its contract, arm by arm.
 -- Assumes nothing.
 use lib.Dec.{lit<}
-use Rattle.text.proofs.IntLaws.{bits-is, bits-not}
+use Rattle.numbers.proofs.IntLaws.{bits-is, bits-not}
 use Rattle.texts.specs.Font.{cellOf}
 use Rattle.texts.proofs.fonts.epl_font_size.Statement.{statement}
 use Rattle.texts.proofs.fonts.epl_font_size.Tie as tie

@@ -3,9 +3,9 @@
 use mathlib.Core.Path.{_≡_, sym, _∙_}
 use lib.IntN.{_*ℤ_}
 use mir.Facts.{toZ-ofZ}
-use Rattle.text.specs.Int.{checked, eqZ}
-use Rattle.text.specs.declared.int.Checked.the-variants.{Fits}
-use Rattle.text.proofs.IntLaws.{back32}
+use Rattle.numbers.specs.Int.{checked, eqZ}
+use Rattle.numbers.specs.declared.int.Checked.the-variants.{Fits}
+use Rattle.numbers.proofs.IntLaws.{back32}
 use Rattle.parameters.specs.Rotation.{rotationOf}
 use Rattle.texts.specs.Font.{cellOf, fontOf}
 use borrow.Author.Needs.{needs}

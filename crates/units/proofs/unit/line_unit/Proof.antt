@@ -1,7 +1,7 @@
 -- `units::unit::line_unit` meets its contract. Assumes nothing.
 use mathlib.Core.Path.{_≡_, sym, ap}
 use Prim.Native.Nat.{ℕ}
-use Rattle.elements.specs.declared.label_position.LabelPosition.{LabelPosition}
+use Rattle.elements.specs.declared.LabelPosition.{LabelPosition}
 use Rattle.parameters.specs.declared.reading.Reading.{Reading}
 use Rattle.whole.specs.Reading.{did}
 use Rattle.grammar.specs.Epl.{actOf}

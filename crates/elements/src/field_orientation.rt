@@ -1,7 +1,0 @@
-// Quarter turns.
-pub enum FieldOrientation {
-    Normal,
-    Rotated90,
-    Rotated180,
-    Rotated270,
-}

@@ -1,0 +1,5 @@
+pub mod IntLaws
+pub mod TwosLaws
+pub mod NanLaws
+pub mod NumberLaws
+pub mod PlainLaws

@@ -1,0 +1,53 @@
+-- `crate::blank::blank_len` meets its contract: the first byte tells, or the longer blanks are tested.
+-- Assumes nothing.
+use mathlib.Core.Path.{refl, sym, ap, _∙_}
+use native.Mathlib.Omega.{arith}
+use borrow.Author.Needs.{needs}
+use Rattle.text.specs.Blank.{isBlank}
+use Rattle.text.proofs.BlankSteps.{size-one, size-wide, blank-first, size-ascii, size-le}
+use Rattle.numbers.proofs.blank.blank_len.Statement.{statement}
+use Rattle.numbers.proofs.blank.blank_len.Tie as tie
+
+returns : tie.Need-returns
+returns c = omega (arith, size-le isBlank refl (c .before .before .args .s .now))
+
+shared-slice-read-b : tie.Need-shared-slice-read-b
+shared-slice-read-b c = search needs
+
+is-blank1-requires : tie.Need-is-blank1-requires
+is-blank1-requires c κs = search needs
+
+returns-2 : tie.Need-returns-2
+returns-2 c = let s = c .before .before .before .before .before .args .s .now in size-one isBlank s (blank-first s ∙ sym (c .before .is-blank1 .ensures) ∙ c .if2 .taken)
+
+returns-3 : tie.Need-returns-3
+returns-3 c = let b = c .before .before in sym (size-ascii (b .before .before .before .before .args .s .now) (c .if3 .taken) (sym (b .is-blank1 .ensures) ∙ c .before .if2 .left))
+
+first-requires : tie.Need-first-requires
+first-requires c κs = search needs
+
+first-requires-2 : tie.Need-first-requires-2
+first-requires-2 c κs = search needs
+
+wide-len-requires : tie.Need-wide-len-requires
+wide-len-requires c κs = search needs
+
+returns-4 : tie.Need-returns-4
+returns-4 c =
+    let e = c .before .before .before .before in
+    let s = e .before .before .before .before .before .args .s .now in
+    size-wide isBlank s (blank-first s ∙ sym (e .before .is-blank1 .ensures) ∙ e .if2 .left) (ap isBlank (c .before .before .first .ensures)) (ap isBlank (c .before .first2 .ensures)) (c .wide-len .ensures)
+
+pub blank-len-spec : {M : Type 1} → statement M
+blank-len-spec =
+    tie.close
+    (tie.spec
+    returns
+    shared-slice-read-b
+    is-blank1-requires
+    returns-2
+    returns-3
+    first-requires
+    first-requires-2
+    wide-len-requires
+    returns-4)

@@ -1,0 +1,58 @@
+-- `crate::blank::end_blank_len` meets its contract: the last byte tells, or the longer blanks are tested.
+-- Assumes nothing.
+use mathlib.Core.Path.{sym, ap, _∙_}
+use mathlib.Core.List.{reverse}
+use native.Mathlib.Omega.{arith}
+use borrow.Author.Needs.{needs}
+use Rattle.text.specs.Blank.{isBlank, back}
+use Rattle.text.proofs.BlankSteps.{size-one, size-wide, blank-last, end-ascii, end-le}
+use Rattle.numbers.proofs.blank.end_blank_len.Statement.{statement}
+use Rattle.numbers.proofs.blank.end_blank_len.Tie as tie
+
+returns : tie.Need-returns
+returns c = omega (arith, end-le (c .before .before .args .s .now))
+
+sub-b : tie.Need-sub-b
+sub-b c = search needs
+
+shared-slice-read-b : tie.Need-shared-slice-read-b
+shared-slice-read-b c = search needs
+
+is-blank1-requires : tie.Need-is-blank1-requires
+is-blank1-requires c κs = search needs
+
+returns-2 : tie.Need-returns-2
+returns-2 c = let s = c .before .before .before .before .before .args .s .now in size-one (back isBlank) (reverse s) (blank-last s (omega arith) ∙ sym (c .before .is-blank1 .ensures) ∙ c .if2 .taken)
+
+returns-3 : tie.Need-returns-3
+returns-3 c = let b = c .before .before in sym (end-ascii (b .before .before .before .before .args .s .now) (omega arith) (c .if3 .taken) (sym (b .is-blank1 .ensures) ∙ c .before .if2 .left))
+
+last-requires : tie.Need-last-requires
+last-requires c κs = search needs
+
+last-requires-2 : tie.Need-last-requires-2
+last-requires-2 c κs = search needs
+
+wide-len-requires : tie.Need-wide-len-requires
+wide-len-requires c κs = search needs
+
+returns-4 : tie.Need-returns-4
+returns-4 c =
+    let e = c .before .before .before .before in
+    let s = e .before .before .before .before .before .args .s .now in
+    size-wide (back isBlank) (reverse s) (blank-last s (omega arith) ∙ sym (e .before .is-blank1 .ensures) ∙ e .if2 .left) (ap isBlank (c .before .before .last .ensures)) (ap isBlank (c .before .last2 .ensures)) (c .wide-len .ensures)
+
+pub end-blank-len-spec : {M : Type 1} → statement M
+end-blank-len-spec =
+    tie.close
+    (tie.spec
+    returns
+    sub-b
+    shared-slice-read-b
+    is-blank1-requires
+    returns-2
+    returns-3
+    last-requires
+    last-requires-2
+    wide-len-requires
+    returns-4)

@@ -1,0 +1,71 @@
+-- `crate::blank::trim_ascii_end` meets its contract. Invariant: nothing but blanks stands from n on. Measure: n.
+-- Assumes nothing.
+use mathlib.Core.Logic.{⊎-elim}
+use mathlib.Core.Path.{_≡_, sym, _∙_}
+use mathlib.Core.List.{reverse}
+use Prim.Native.Nat.{_≤_}
+use native.Mathlib.Omega.{arith}
+use lib.ListN.{length, take, length-take}
+use lib.Seq.{take-length}
+use borrow.Author.Needs.{needs}
+use Rattle.text.specs.Blank.{isAsciiBlank, dropWhile}
+use Rattle.text.proofs.DropSteps.{back-skip, back-stop, back-end}
+use Rattle.numbers.proofs.blank.trim_ascii_end.Statement.{statement}
+use Rattle.numbers.proofs.blank.trim_ascii_end.Tie as tie
+
+abbrev Inv-loop : tie.InvT-loop
+Inv-loop s n₀ n = (n ≤ length s) × (dropWhile isAsciiBlank (reverse s) ≡ dropWhile isAsciiBlank (reverse (take n s)))
+
+abbrev μ-loop : tie.MeasureT-loop
+μ-loop s n₀ n = n
+
+loop-holds : tie.Need-loop-holds Inv-loop μ-loop
+loop-holds c = (search needs, cc (take-length (c .before .args .s .now)))
+
+sub-is-ascii-blank : tie.Need-sub-is-ascii-blank Inv-loop μ-loop
+sub-is-ascii-blank c = search needs
+
+shared-slice-read-is-ascii-blank : tie.Need-shared-slice-read-is-ascii-blank Inv-loop μ-loop
+shared-slice-read-is-ascii-blank c = search needs
+
+is-ascii-blank-requires : tie.Need-is-ascii-blank-requires Inv-loop μ-loop
+is-ascii-blank-requires c κs = search needs
+
+sub-n : tie.Need-sub-n Inv-loop μ-loop
+sub-n c = search needs
+
+loop-less : tie.Need-loop-less Inv-loop μ-loop
+loop-less c = search needs
+
+loop-again : tie.Need-loop-again Inv-loop μ-loop
+loop-again c =
+    let l = c .before .before .before .before in
+    (search needs, l .loop .inv .1 ∙ back-skip isAsciiBlank (l .before .before .args .s .now) (l .loop .n) (search needs) (search needs) (sym (c .before .is-ascii-blank .ensures) ∙ c .if1 .taken))
+
+slice-aggregate-result : tie.Need-slice-aggregate-result Inv-loop μ-loop
+slice-aggregate-result c = simp length-take (omega arith)
+
+returns : tie.Need-returns Inv-loop μ-loop
+returns c =
+    let l = c .before .before in
+    let s = l .before .before .args .s .now in
+    ⊎-elim
+    (λ w. back-stop isAsciiBlank s (l .loop .n) (l .loop .inv .1) (w .0 .taken) (search needs) (sym (w .2 .ensures) ∙ w .3 .left))
+    (λ w. back-end isAsciiBlank s (l .loop .n) (l .loop .inv .1) (w .left))
+    (c .before .loop-test .came)
+
+pub trim-ascii-end-spec : {M : Type 1} → statement M
+trim-ascii-end-spec =
+    tie.close
+    (tie.spec
+    Inv-loop
+    μ-loop
+    loop-holds
+    sub-is-ascii-blank
+    shared-slice-read-is-ascii-blank
+    is-ascii-blank-requires
+    sub-n
+    loop-less
+    loop-again
+    slice-aggregate-result
+    returns)

@@ -1,0 +1,72 @@
+-- `crate::blank::trim_ascii_start` meets its contract. Invariant: nothing but blanks stands before i. Measure: s's length less i.
+-- Assumes nothing.
+use mathlib.Core.Logic.{⊎-elim}
+use mathlib.Core.Path.{_≡_, sym, _∙_}
+use Prim.Native.Nat.{_-_, _≤_}
+use lib.ListN.{length, drop}
+use borrow.Author.Needs.{needs}
+use Rattle.text.specs.Blank.{isAsciiBlank, dropWhile}
+use Rattle.text.proofs.DropSteps.{front-skip, front-stop, front-end}
+use Rattle.numbers.proofs.blank.trim_ascii_start.Statement.{statement}
+use Rattle.numbers.proofs.blank.trim_ascii_start.Tie as tie
+
+abbrev Inv-loop : tie.InvT-loop
+Inv-loop s i₀ i = (i ≤ length s) × (dropWhile isAsciiBlank s ≡ dropWhile isAsciiBlank (drop i s))
+
+abbrev μ-loop : tie.MeasureT-loop
+μ-loop s i₀ i = length s - i
+
+loop-holds : tie.Need-loop-holds Inv-loop μ-loop
+loop-holds c = search needs
+
+shared-slice-read-is-ascii-blank : tie.Need-shared-slice-read-is-ascii-blank Inv-loop μ-loop
+shared-slice-read-is-ascii-blank c = search needs
+
+is-ascii-blank-requires : tie.Need-is-ascii-blank-requires Inv-loop μ-loop
+is-ascii-blank-requires c κs = search needs
+
+add-i : tie.Need-add-i Inv-loop μ-loop
+add-i c = search needs
+
+loop-less : tie.Need-loop-less Inv-loop μ-loop
+loop-less c = search needs
+
+loop-again : tie.Need-loop-again Inv-loop μ-loop
+loop-again c =
+    let l = c .before .before .before .before in
+    (search needs, l .loop .inv .1 ∙ front-skip isAsciiBlank (l .before .before .args .s .now) (l .loop .i) (search needs) (sym (c .before .is-ascii-blank .ensures) ∙ c .if1 .taken))
+
+sub-result : tie.Need-sub-result Inv-loop μ-loop
+sub-result c = search needs
+
+part-result-start : tie.Need-part-result-start Inv-loop μ-loop
+part-result-start c = search needs
+
+part-result-end : tie.Need-part-result-end Inv-loop μ-loop
+part-result-end c = search needs
+
+returns : tie.Need-returns Inv-loop μ-loop
+returns c =
+    let l = c .before .before in
+    let s = l .before .before .args .s .now in
+    ⊎-elim
+    (λ w. front-stop isAsciiBlank s (l .loop .i) (l .loop .inv .1) (w .0 .taken) (sym (w .2 .ensures) ∙ w .3 .left))
+    (λ w. front-end isAsciiBlank s (l .loop .i) (l .loop .inv .1) (w .left))
+    (c .before .loop-test .came)
+
+pub trim-ascii-start-spec : {M : Type 1} → statement M
+trim-ascii-start-spec =
+    tie.close
+    (tie.spec
+    Inv-loop
+    μ-loop
+    loop-holds
+    shared-slice-read-is-ascii-blank
+    is-ascii-blank-requires
+    add-i
+    loop-less
+    loop-again
+    sub-result
+    part-result-start
+    part-result-end
+    returns)

@@ -1,0 +1,25 @@
+-- `crate::int::checked_sub` meets its contract: `minus` gives the difference, and `narrow` tests it.
+-- Assumes nothing.
+use mathlib.Core.Path.{_≡_, ap, _∙_}
+use lib.IntN.{_-ℤ_}
+use mir.Facts.{toZ-ofZ}
+use borrow.Author.Needs.{needs}
+use Rattle.numbers.specs.Int.{checked}
+use Rattle.numbers.proofs.IntLaws.{back64}
+use Rattle.numbers.proofs.int.checked_sub.Statement.{statement}
+use Rattle.numbers.proofs.int.checked_sub.Tie as tie
+
+minus-requires : tie.Need-minus-requires
+minus-requires c κs = search needs
+
+narrow-requires : tie.Need-narrow-requires
+narrow-requires c κs = search needs
+
+returns : tie.Need-returns
+returns c =
+    let s = c .before .before in
+    let e : c .before .minus .result ≡ (s .args .a -ℤ s .args .b) = simp (toZ-ofZ (s .fits .a), toZ-ofZ (s .fits .b)) at (c .before .minus .ensures) in
+    simp (back64 (c .before .minus .result) (c .before .minus .ok)) at (c .narrow .ensures) ∙ ap checked e
+
+pub checked-sub-spec : {M : Type 1} → statement M
+checked-sub-spec = tie.close (tie.spec minus-requires narrow-requires returns)

@@ -1,0 +1,29 @@
+-- `crate::int::times` meets its contract: the product of two numbers of 32 bits fits 64.
+-- Assumes nothing.
+use mir.Syntax.{w64}
+use mir.Val.{SFits}
+use mir.Facts.{toZ-ofZ, sfits-widen}
+use Rattle.numbers.proofs.IntLaws.{mul-fits}
+use Rattle.numbers.proofs.int.times.Statement.{statement}
+use Rattle.numbers.proofs.int.times.Tie as tie
+
+cast-result : tie.Need-cast-result
+cast-result c = simp (toZ-ofZ (c .fits .a)) (sfits-widen tt (c .fits .a))
+
+cast-result-2 : tie.Need-cast-result-2
+cast-result-2 c = simp (toZ-ofZ (c .fits .b)) (sfits-widen tt (c .fits .b))
+
+mul-result : tie.Need-mul-result
+mul-result c =
+    let a : SFits w64 (c .args .a) = sfits-widen tt (c .fits .a) in
+    let b : SFits w64 (c .args .b) = sfits-widen tt (c .fits .b) in
+    simp (toZ-ofZ (c .fits .a), toZ-ofZ (c .fits .b), toZ-ofZ a, toZ-ofZ b) (mul-fits _ _ (c .fits .a) (c .fits .b))
+
+returns : tie.Need-returns
+returns c =
+    let a : SFits w64 (c .args .a) = sfits-widen tt (c .fits .a) in
+    let b : SFits w64 (c .args .b) = sfits-widen tt (c .fits .b) in
+    simp (toZ-ofZ (c .fits .a), toZ-ofZ (c .fits .b), toZ-ofZ a, toZ-ofZ b, toZ-ofZ (mul-fits _ _ (c .fits .a) (c .fits .b)))
+
+pub times-spec : {M : Type 1} → statement M
+times-spec = tie.close (tie.spec cast-result cast-result-2 mul-result returns)

@@ -1,0 +1,36 @@
+-- `crate::number::after_sign` meets its contract: what `digits` answers is what the digits are, up to 2^31.
+-- Assumes nothing.
+use mathlib.Core.Path.{sym, ap, _∙_}
+use borrow.Author.Needs.{needs}
+use Rattle.numbers.specs.Number.{signed, digitsOf}
+use Rattle.numbers.proofs.NumberLaws.{upto, bad}
+use Rattle.numbers.proofs.number.after_sign.Statement.{statement}
+use Rattle.numbers.proofs.number.after_sign.Tie as tie
+
+digits-requires : tie.Need-digits-requires
+digits-requires c κs = search needs
+
+enum-known-v : tie.Need-enum-known-v
+enum-known-v c = search needs
+
+with-sign-requires : tie.Need-with-sign-requires
+with-sign-requires c κs = upto (digitsOf (c .before .before .before .before .before .args .s .now)) (c .before .v .given .0 .0) (sym (c .before .v .given .1) ∙ c .before .before .before .digits .ensures) .1
+
+enum-told : tie.Need-enum-told
+enum-told c = search needs
+
+returns : tie.Need-returns
+returns c =
+    let n = c .before .before in
+    let e = upto (digitsOf (n .before .before .before .before .args .s .now)) (n .v .given .0 .0) (sym (n .v .given .1) ∙ n .before .before .digits .ensures) in
+    c .with-sign .ensures ∙ sym (ap (signed (n .before .before .before .before .args .neg)) (e .0))
+
+returns-2 : tie.Need-returns-2
+returns-2 c =
+    let n = c .before .before in
+    sym (bad (digitsOf (n .before .before .args .s .now)) (n .before .before .args .neg) (sym (c .enum-told .given .1) ∙ n .digits .ensures))
+
+pub after-sign-spec : {M : Type 1} → statement M
+after-sign-spec =
+    tie.close
+    (tie.spec digits-requires enum-known-v with-sign-requires enum-told returns returns-2)
