@@ -129,6 +129,7 @@ fn made(maker: &mut Maker) -> Vec<u8> {
         7 => maker.graphics(60),
         8 if maker.rng.one_in(40) => maker.graphics(6_000),
         8 if maker.rng.one_in(200) => qr_sizes(maker),
+        9 if maker.rng.one_in(20) => long_lines(maker),
         8..=9 => maker.unit(),
         10 => maker.tokens(16),
         11 => maker.bytes(32),
@@ -161,6 +162,30 @@ fn qr_sizes(maker: &mut Maker) -> Vec<u8> {
     let decoded = String::from_utf8_lossy(part).len();
     let odd = vec![b'7'; maker.rng.below(8)];
     [b"N\nb1,2,Q,\"", &*part.repeat(9_996 / decoded), &odd, b"\"\n"].concat()
+}
+
+/// Lines that are written in several pieces, with blanks at their ends and across the seams between pieces, and a label behind them.
+fn long_lines(maker: &mut Maker) -> Vec<u8> {
+    let mut input = Vec::new();
+    for _ in 0..1 + maker.rng.below(2) {
+        let blank = [b' ', b'\t', b'\r', 0x0c, 0x0b][maker.rng.below(5)];
+        let from = maker.rng.below(3) * maker.rng.below(4_100);
+        input.extend(vec![blank; from]);
+        let start = input.len();
+        input.extend(vec![b';'; 4_096 * (1 + maker.rng.below(3)) + maker.rng.below(9) - 4]);
+        for seam in (start..input.len()).step_by(4_096) {
+            let around = seam.saturating_sub(maker.rng.below(6)).max(start + 1)..(seam + maker.rng.below(6)).min(input.len());
+            if maker.rng.one_in(2) && around.start < around.end {
+                input[around].fill(blank);
+            }
+        }
+        input.extend(vec![b' '; maker.rng.below(3) * maker.rng.below(4_100)]);
+        input.extend([&b"\n"[..], b"\r\n", b""][maker.rng.below(3)]);
+    }
+    if maker.rng.one_in(2) {
+        input.extend(maker.label());
+    }
+    input
 }
 
 /// Inputs around the limit of 16,777,216 bytes.

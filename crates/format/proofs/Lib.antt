@@ -1,4 +1,7 @@
 -- what stands first and the part of it that stays
 pub mod TakesLaws
+-- a line piece by piece
+pub mod PieceLaws
+pub mod AlongLaws
 -- the normalised text from a place on
 pub mod NormaliseLaws

@@ -78,6 +78,19 @@ module _ (s : List ℕ) (n : ℕ) (e : n ≡ indexOf 10 s) where
   index-in : n ≤ length s
   index-in = rw e (index-le 10 s)
 
+  -- what is written of it, and what follows: behind its LF, or nothing
+  pub text-line : n < length s → (go : List ℕ → List ℕ) → written (textLine s) go ≡ ended (trimAscii (take n s)) ++ go (drop (n + 1) s)
+  text-line h go =
+      let k : textLine s ≡ unit (line (take n s)) (drop (n + 1) s) = text-by ∙ rw (add-one, drop-cons s n 0) in
+      ap (λ (f : First EplUnit). written f go) k ∙ ap (λ (x : List ℕ). x ++ go (drop (n + 1) s)) (kept-ended (trimAscii (take n s)))
+
+  pub text-last : 0 < length s → length s ≤ n → (go : List ℕ → List ℕ) → written (textLine s) go ≡ ended (trimAscii (take n s)) ++ go (drop n s)
+  text-last p h go =
+      let d = drop-of-length-le s {i = n} h in
+      let k : textLine s ≡ unit (last (take n s)) (drop n s) =
+      text-by ∙ ap (lineBy (take n s)) d ∙ line-by (take n s) (omega (arith, length-take-le n s index-in)) ∙ ap (unit (last (take n s))) (sym d) in
+      ap (λ (f : First EplUnit). written f go) k ∙ ap (λ (x : List ℕ). x ++ go (drop n s)) (kept-ended (trimAscii (take n s)))
+
   module _ (u m : List ℕ) (a : u ≡ dropWhile isAsciiBlank (take n s)) (b : m ≡ dropEnd isAsciiBlank u) where
     part-is : take (length m) (drop (n - length u) s) ≡ trimAscii (take n s)
     part-is = rw (b, a) (trimmed-is s n index-in)
@@ -85,32 +98,21 @@ module _ (s : List ℕ) (n : ℕ) (e : n ≡ indexOf 10 s) where
     part-fits : n - length u + length m ≤ n
     part-fits = rw (b, a) (trimmed-le s n index-in)
 
-    stays : each bytes (kept (trimAscii (take n s))) ≡ ended (take (length m) (drop (n - length u) s))
-    stays = kept-ended (trimAscii (take n s)) ∙ ap ended (sym part-is)
-
     pub takes-line : n < length s → Takes s (textLine s) (record { size = n + 1; start = n - length u; len = length m })
-    takes-line h =
-        record {
-          is = λ go.
-              let k : textLine s ≡ unit (line (take n s)) (drop (n + 1) s) = text-by ∙ rw (add-one, drop-cons s n 0) in
-              ap (λ (f : First EplUnit). written f go) k ∙ ap (λ (x : List ℕ). x ++ go (drop (n + 1) s)) stays;
-          some = omega arith;
-          inside = omega arith;
-          part = omega (arith, part-fits);
-        }
+    takes-line h = record {
+      is = λ go. text-line h go ∙ ap (λ (x : List ℕ). ended x ++ go (drop (n + 1) s)) (sym part-is);
+      some = omega arith;
+      inside = omega arith;
+      part = omega (arith, part-fits);
+    }
 
     pub takes-last : 0 < length s → length s ≤ n → Takes s (textLine s) (record { size = n; start = n - length u; len = length m })
-    takes-last p h =
-        record {
-          is = λ go.
-              let d = drop-of-length-le s {i = n} h in
-              let k : textLine s ≡ unit (last (take n s)) (drop n s) =
-              text-by ∙ ap (lineBy (take n s)) d ∙ line-by (take n s) (omega (arith, length-take-le n s index-in)) ∙ ap (unit (last (take n s))) (sym d) in
-              ap (λ (f : First EplUnit). written f go) k ∙ ap (λ (x : List ℕ). x ++ go (drop n s)) stays;
-          some = omega arith;
-          inside = index-in;
-          part = part-fits;
-        }
+    takes-last p h = record {
+      is = λ go. text-last p h go ∙ ap (λ (x : List ℕ). ended x ++ go (drop n s)) (sym part-is);
+      some = omega arith;
+      inside = index-in;
+      part = part-fits;
+    }
 
 -- ---- what stands first
 pub takes-text : (s : List ℕ) (c : Chunk) → Takes s (textLine s) c → chunk s ≡ textLine s → Takes s (chunk s) c

@@ -3,12 +3,15 @@ use mathlib.Core.Path.{_≡_}
 use mathlib.Core.List.{List, [], _∷_, _++_}
 use Prim.Native.Nat.{ℕ, _+_, _<_, _≤_}
 use lib.ListN.{length, take, drop}
+use Rattle.text.specs.Blank.{front, dropEnd, isAsciiBlank, trimAscii}
+use Rattle.text.specs.Wrote.{Put}
 use Rattle.whole.specs.Given.{Due, text, within}
 use Rattle.whole.specs.Language.{First}
 use Rattle.whole.specs.Step.{longest}
-use Rattle.grammar.specs.Units.{EplUnit}
+use Rattle.grammar.specs.Units.{EplUnit, notLf}
 use Rattle.grammar.specs.Found.{textLine}
 use Rattle.grammar.specs.Normal.{chunk, written, normalised}
+use Rattle.format.specs.declared.line.Line.{Line}
 use Rattle.format.specs.declared.normalise.Chunk.{Chunk}
 
 -- what is due to `normalise`: "The normaliser knows 14 and 15 only"
@@ -20,6 +23,16 @@ dueOf s = within longest s (text (normalised s))
 abbrev pub ended : List ℕ → List ℕ
 ended [] = []
 ended (b ∷ t) = (b ∷ t) ++ 10 ∷ []
+
+-- the line that stands first in s, put from at on: its size without its LF, and the place behind what was put
+pub record PutsLine (n l s : List ℕ) (at : ℕ) (r : Line) : Type 0 where
+  pub put : Put n l at (ended (trimAscii (front notLf s))) (r .to)
+  pub size : r .size ≡ length (front notLf s)
+
+-- the same with nothing behind it, and the blanks before it
+pub record PutsPieces (n l t : List ℕ) (at : ℕ) (r : Line) : Type 0 where
+  pub put : Put n l at (dropEnd isAsciiBlank (front notLf t)) (r .to)
+  pub size : r .size ≡ length (front notLf t)
 
 -- what c leaves of s
 abbrev pub partOf : List ℕ → Chunk → List ℕ

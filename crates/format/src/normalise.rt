@@ -9,8 +9,9 @@ ghost use Rattle.whole.specs.Step.{longest};
 ghost use Rattle.grammar.specs.Filled.{givenOf};
 ghost use Rattle.grammar.specs.Found.{textLine};
 ghost use Rattle.grammar.specs.Normal.{normalised};
-ghost use Rattle.format.specs.Normalise.{dueOf, ended, Takes, TakesAt, Blocks};
-use bytes::put::put_bytes;
+ghost use Rattle.format.specs.Normalise.{dueOf, Takes, TakesAt, Blocks};
+use crate::line::put_ended;
+use crate::line::put_line;
 use bytes::scan::find;
 use elements::filled::Filled;
 use elements::refusal::INPUT_MAX;
@@ -18,6 +19,7 @@ use elements::refusal::Refusal;
 use graphics::gw_span::Graphic;
 use graphics::gw_span::gw_span;
 use graphics::gw_span::opens_gw;
+use numbers::blank::first;
 use numbers::blank::trim_ascii_end;
 use numbers::blank::trim_ascii_start;
 
@@ -99,20 +101,6 @@ fn measure(input: &[u8]) -> usize
     total
 }
 
-// A part and the LF behind it; nothing for a part of no bytes.
-fn put_ended(part: &[u8], out: &mut [u8], at: usize) -> usize
-    requires { ⌜ at + length (ended (now part)) ≤ length (now out) ⌝ }
-    ensures { λ r. ⌜ Put (now (out .exit)) (now (out .entry)) at (ended (now (part .entry))) r ⌝ }
-{
-    if part.len() == 0 {
-        return at;
-    }
-    put_bytes(part, out, at);
-    let end = at + part.len();
-    out[end] = 10;
-    end + 1
-}
-
 // The normalised text, from the start of out.
 fn put_chunks(input: &[u8], out: &mut [u8]) -> usize
     requires { ⌜ length (normalised (now input)) ≤ length (now out) ⌝ }
@@ -121,11 +109,19 @@ fn put_chunks(input: &[u8], out: &mut [u8]) -> usize
     let mut at = 0;
     let mut to = 0;
     while at < input.len() {
-        let c = chunk_at(input, at);
-        let from = at + c.start;
-        let end = from + c.len;
-        to = put_ended(&input[from..end], out, to);
-        at += c.size;
+        let rest = &input[at..];
+        let n = block_len(rest);
+        if 0 < n {
+            to = put_ended(first(rest, n), out, to);
+            at += n;
+        } else {
+            let l = put_line(rest, out, to);
+            to = l.to;
+            at += l.size;
+            if at < input.len() {
+                at += 1;
+            }
+        }
     }
     to
 }

@@ -1,14 +1,18 @@
 -- `format::normalise::put_chunks` meets its contract. Invariant: with the text from at on, the buffer is what it shall be. Measure: the bytes left.
 -- Assumes nothing.
-use mathlib.Core.Path.{_≡_}
+use mathlib.Core.Path.{_≡_, refl, sym, ap, _∙_}
 use mathlib.Core.List.{List, _++_}
-use Prim.Native.Nat.{ℕ, _+_, _-_, _≤_}
+use Prim.Native.Nat.{ℕ, _+_, _-_, _<_, _≤_}
 use native.Mathlib.Omega.{arith}
-use lib.ListN.{length, drop}
+use lib.ListN.{length, length-drop, take, drop}
+use Rattle.text.specs.Blank.{front, trimAscii}
+use Rattle.text.proofs.DropSteps.{rest}
 use Rattle.text.proofs.Toward.{Toward, begin, room, put, finish}
+use Rattle.grammar.specs.Units.{notLf}
 use Rattle.grammar.specs.Normal.{normalised}
 use Rattle.format.specs.Normalise.{ended}
-use Rattle.format.proofs.NormaliseLaws.{normalised-end, stays, turn}
+use Rattle.format.proofs.PieceLaws.{front-le}
+use Rattle.format.proofs.NormaliseLaws.{normalised-end, block-turn, block-in, line-turn, last-turn, line-le}
 use borrow.Author.Needs.{needs}
 use Rattle.format.proofs.normalise.put_chunks.Statement.{statement}
 use Rattle.format.proofs.normalise.put_chunks.Tie as tie
@@ -19,59 +23,128 @@ Inv-loop input out₀ at₀ to₀ out at to = (at ≤ length input) × Toward ou
 abbrev μ-loop : tie.MeasureT-loop
 μ-loop input out₀ at₀ to₀ out at to = length input - at
 
--- at a chunk: the input and the place, the part that stays and what follows it
-abbrev src : tie.After-chunk-at Inv-loop μ-loop → List ℕ
-src d = d .before .before .before .before .before .args .input .now
+-- what stands first is known: the loop that it is in, the input, the place and what stands there
+module _ (d : tie.After-block-len Inv-loop μ-loop) where
+  abbrev turn : tie.At-loop Inv-loop μ-loop
+  turn = d .before .before .before
 
-abbrev place : tie.After-chunk-at Inv-loop μ-loop → ℕ
-place d = d .before .before .loop .at
+  abbrev src : List ℕ
+  src = turn .before .before .before .args .input .now
 
-abbrev part : tie.After-chunk-at Inv-loop μ-loop → List ℕ
-part d = stays (src d) (place d) (d .chunk-at .result)
+  abbrev place : ℕ
+  place = turn .loop .at
 
-abbrev more : tie.After-chunk-at Inv-loop μ-loop → List ℕ
-more d = normalised (drop (place d + d .chunk-at .result .size) (src d))
+  abbrev here : List ℕ
+  here = take (length src - place) (drop place src)
 
-left : (d : tie.After-chunk-at Inv-loop μ-loop) → normalised (drop (place d) (src d)) ≡ ended (part d) ++ more d
-left d = turn (src d) (place d) (d .chunk-at .result) (d .chunk-at .ensures)
+  long : length here ≡ length src - place
+  long = ap length (rest src place) ∙ length-drop place src
+
+  -- a block
+  block : 0 < d .block-len .result → normalised (drop place src) ≡ ended (take (d .block-len .result) here) ++ normalised (drop (place + d .block-len .result) src)
+  block = block-turn src place here (rest src place) (d .block-len .result) (d .block-len .ensures)
+
+  block-fits : 0 < d .block-len .result → place + d .block-len .result ≤ length src
+  block-fits h = block-in src place here (rest src place) (d .block-len .result) (d .block-len .ensures) h (turn .loop .inv .0)
+
+  -- a line of k bytes, with an LF behind it and without one
+  module _ (h : d .block-len .result ≤ 0) where
+    with-lf : (k : ℕ) → k ≡ length (front notLf here) → place + k < length src → normalised (drop place src) ≡ ended (trimAscii (front notLf here)) ++ normalised (drop (place + k + 1) src)
+    with-lf k e l =
+        let a : place + (k + 1) ≡ place + k + 1 = omega arith in
+        line-turn src place here (rest src place) (d .block-len .result) (d .block-len .ensures) h k e (omega (arith, long, l))
+        ∙ ap (λ (j : ℕ). ended (trimAscii (front notLf here)) ++ normalised (drop j src)) a
+
+    without : (k : ℕ) → k ≡ length (front notLf here) → length src ≤ place + k → normalised (drop place src) ≡ ended (trimAscii (front notLf here)) ++ normalised (drop (place + k) src)
+    without k e l = last-turn src place here (rest src place) (d .block-len .result) (d .block-len .ensures) h k e (omega (arith, long, d .before .before .loop-test .taken)) (omega (arith, long, l))
+
+    line-fits : length (ended (trimAscii (front notLf here))) ≤ length (normalised (drop place src))
+    line-fits = line-le src place here (rest src place) (d .block-len .result) (d .block-len .ensures) h (length (front notLf here)) refl (omega (arith, long, d .before .before .loop-test .taken))
+
+    size-le : (k : ℕ) → k ≡ length (front notLf here) → place + k ≤ length src
+    size-le k e = omega (arith, e, long, front-le notLf here, turn .loop .inv .0)
 
 loop-holds : tie.Need-loop-holds Inv-loop μ-loop
 loop-holds c = (omega arith, begin _ _ _)
 
-chunk-at-requires : tie.Need-chunk-at-requires Inv-loop μ-loop
-chunk-at-requires c κs = search needs
+sub-rest : tie.Need-sub-rest Inv-loop μ-loop
+sub-rest c = search needs
 
-add-from : tie.Need-add-from Inv-loop μ-loop
-add-from c = search needs
+part-rest-start : tie.Need-part-rest-start Inv-loop μ-loop
+part-rest-start c = search needs
 
-add-end : tie.Need-add-end Inv-loop μ-loop
-add-end c = search needs
+part-rest-end : tie.Need-part-rest-end Inv-loop μ-loop
+part-rest-end c = search needs
 
-sub-put-ended : tie.Need-sub-put-ended Inv-loop μ-loop
-sub-put-ended c = search needs
+block-len-requires : tie.Need-block-len-requires Inv-loop μ-loop
+block-len-requires c κs = search needs
 
-part-put-ended-start : tie.Need-part-put-ended-start Inv-loop μ-loop
-part-put-ended-start c = search needs
+first-requires : tie.Need-first-requires Inv-loop μ-loop
+first-requires c κs = search needs
 
-part-put-ended-end : tie.Need-part-put-ended-end Inv-loop μ-loop
-part-put-ended-end c = search needs
+-- the part that first gives
+whole : (c : tie.After-first Inv-loop μ-loop) → normalised (drop (place (c .before .before)) (src (c .before .before))) ≡ ended (c .first .result .now) ++ normalised (drop (place (c .before .before) + c .before .before .block-len .result) (src (c .before .before)))
+whole c =
+    let d = c .before .before in
+    block d (c .before .if1 .taken) ∙ ap (λ (l : List ℕ). ended l ++ normalised (drop (place d + d .block-len .result) (src d))) (sym (c .first .ensures))
 
 put-ended-requires : tie.Need-put-ended-requires Inv-loop μ-loop
 put-ended-requires c κs =
-    let d = c .before .before .before .before in
-    room (d .before .before .loop .inv .1) (ended (part d)) (more d) (omega arith) (left d)
+    let f = c .before in
+    let d = f .before .before in
+    room (turn d .loop .inv .1) (ended (f .first .result .now)) (normalised (drop (place d + d .block-len .result) (src d))) (omega arith) (whole f)
 
 add-at : tie.Need-add-at Inv-loop μ-loop
-add-at c = search needs
+add-at c = let t = c .before .before .before .before .before in omega (arith, block-fits (t .before) (t .if1 .taken))
 
 loop-less : tie.Need-loop-less Inv-loop μ-loop
-loop-less c = search needs
+loop-less c = let t = c .before .before .before .before .before in omega (arith, t .if1 .taken, block-fits (t .before) (t .if1 .taken))
 
 loop-again : tie.Need-loop-again Inv-loop μ-loop
 loop-again c =
+    let p = c .before .before in
+    let f = p .before .before in
+    let d = f .before .before in
+    (block-fits d (f .before .if1 .taken), put (turn d .loop .inv .1) (normalised (drop (place d + d .block-len .result) (src d))) (whole f) (p .put-ended .ensures))
+
+put-line-requires : tie.Need-put-line-requires Inv-loop μ-loop
+put-line-requires c κs =
+    let e = c .before in
+    let t = turn (e .before) .loop .inv .1 in
+    omega (arith, line-fits (e .before) (e .if1 .left), t .ends, t .long, turn (e .before) .before .before .before .pre)
+
+add-at-2 : tie.Need-add-at-2 Inv-loop μ-loop
+add-at-2 c =
     let p = c .before .before .before in
-    let d = p .before .before .before .before .before in
-    (omega arith, put (d .before .before .loop .inv .1) (more d) (left d) (p .put-ended .ensures))
+    let e = p .before .before in
+    omega (arith, size-le (e .before) (e .if1 .left) (p .put-line .result .size) (p .put-line .ensures .size))
+
+add-at-3 : tie.Need-add-at-3 Inv-loop μ-loop
+add-at-3 c = omega (arith, c .if2 .taken)
+
+loop-less-2 : tie.Need-loop-less-2 Inv-loop μ-loop
+loop-less-2 c = omega (arith, c .if2 .taken)
+
+loop-again-2 : tie.Need-loop-again-2 Inv-loop μ-loop
+loop-again-2 c =
+    let p = c .before .before .before .before in
+    let e = p .before .before in
+    let d = e .before in
+    let k = p .put-line .result .size in
+    (omega (arith, c .if2 .taken), put (turn d .loop .inv .1) (normalised (drop (place d + k + 1) (src d))) (with-lf d (e .if1 .left) k (p .put-line .ensures .size) (c .if2 .taken)) (p .put-line .ensures .put))
+
+loop-less-3 : tie.Need-loop-less-3 Inv-loop μ-loop
+loop-less-3 c =
+    let d = c .before .before .before .before .before .before .before in
+    omega (arith, c .if2 .left, d .before .before .loop-test .taken)
+
+loop-again-3 : tie.Need-loop-again-3 Inv-loop μ-loop
+loop-again-3 c =
+    let p = c .before .before .before .before in
+    let e = p .before .before in
+    let d = e .before in
+    let k = p .put-line .result .size in
+    (size-le d (e .if1 .left) k (p .put-line .ensures .size), put (turn d .loop .inv .1) (normalised (drop (place d + k) (src d))) (without d (e .if1 .left) k (p .put-line .ensures .size) (c .if2 .left)) (p .put-line .ensures .put))
 
 same-length : tie.Need-same-length Inv-loop μ-loop
 same-length c = c .before .loop .inv .1 .long
@@ -86,15 +159,21 @@ put-chunks-spec =
     Inv-loop
     μ-loop
     loop-holds
-    chunk-at-requires
-    add-from
-    add-end
-    sub-put-ended
-    part-put-ended-start
-    part-put-ended-end
+    sub-rest
+    part-rest-start
+    part-rest-end
+    block-len-requires
+    first-requires
     put-ended-requires
     add-at
     loop-less
     loop-again
+    put-line-requires
+    add-at-2
+    add-at-3
+    loop-less-2
+    loop-again-2
+    loop-less-3
+    loop-again-3
     same-length
     returns)

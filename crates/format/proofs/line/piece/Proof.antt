@@ -1,0 +1,30 @@
+-- `format::line::piece` meets its contract. Assumes nothing.
+use mathlib.Core.Path.{_≡_, sym, ap, _∙_}
+use mathlib.Core.List.{List}
+use Prim.Native.Nat.{ℕ}
+use lib.ListN.{take}
+use Rattle.text.specs.Blank.{front}
+use Rattle.text.specs.Fields.{indexOf}
+use Rattle.grammar.specs.Units.{notLf}
+use Rattle.grammar.proofs.LineTurnLaws.{front-index}
+use borrow.Author.Needs.{needs}
+use Rattle.format.proofs.line.piece.Statement.{statement}
+use Rattle.format.proofs.line.piece.Tie as tie
+
+first-requires : tie.Need-first-requires
+first-requires c κs = search needs
+
+find-requires : tie.Need-find-requires
+find-requires c κs = search needs
+
+first-requires-2 : tie.Need-first-requires-2
+first-requires-2 c κs = search needs
+
+returns : tie.Need-returns
+returns c =
+    let f = c .before in
+    let n = f .before in
+    c .first2 .ensures ∙ ap (λ (k : ℕ). take k (n .first .result .now)) (f .find .ensures .is) ∙ sym (front-index (n .first .result .now)) ∙ ap (front notLf) (n .first .ensures)
+
+pub piece-spec : {M : Type 1} → statement M
+piece-spec = tie.close (tie.spec first-requires find-requires first-requires-2 returns)

@@ -1,0 +1,88 @@
+-- `format::line::put_line` meets its contract: a line that ends within a piece at once, and a longer one by its pieces. Assumes nothing.
+use mathlib.Core.Path.{_≡_, sym, ap, _∙_}
+use mathlib.Core.Bool.{true}
+use mathlib.Core.List.{List}
+use Prim.Native.Nat.{ℕ, _<_, _≤_}
+use native.Mathlib.Omega.{arith}
+use lib.ListN.{length, take, length-take}
+use lib.Seq.{length-take-le}
+use Rattle.text.specs.Blank.{front, dropWhile, dropEnd, isAsciiBlank, trimAscii}
+use Rattle.text.specs.Fields.{indexOf}
+use Rattle.text.proofs.FieldsLaws.{index-le}
+use Rattle.grammar.specs.Units.{notLf}
+use Rattle.grammar.proofs.LineTurnLaws.{front-index}
+use Rattle.format.specs.Normalise.{ended}
+use Rattle.format.proofs.AlongLaws.{near-size, near-is}
+use borrow.Author.Needs.{needs}
+use Rattle.format.proofs.line.put_line.Statement.{statement}
+use Rattle.format.proofs.line.put_line.Tie as tie
+
+first-requires : tie.Need-first-requires
+first-requires c κs = search needs
+
+find-requires : tie.Need-find-requires
+find-requires c κs = search needs
+
+put-long-requires : tie.Need-put-long-requires
+put-long-requires c κs = search needs
+
+same-length : tie.Need-same-length
+same-length c = search needs
+
+returns : tie.Need-returns
+returns c = search needs
+
+first-requires-2 : tie.Need-first-requires-2
+first-requires-2 c κs = search needs
+
+trim-ascii-start-requires : tie.Need-trim-ascii-start-requires
+trim-ascii-start-requires c κs = search needs
+
+trim-ascii-end-requires : tie.Need-trim-ascii-end-requires
+trim-ascii-end-requires c κs = search needs
+
+-- what stays of the line
+kept : (c : tie.After-trim-ascii-end) → c .trim-ascii-end .result .now ≡ trimAscii (front notLf (c .before .before .before .before .before .before .before .before .args .rest .now))
+kept c =
+    let f = c .before .before in
+    let n = f .before .before in
+    let s = n .before .before .before .before .args .rest .now in
+    c .trim-ascii-end .ensures
+    ∙ ap (dropEnd isAsciiBlank) (c .before .trim-ascii-start .ensures)
+    ∙ ap trimAscii (f .first2 .ensures ∙ near-is s (n .find .result) (n .find .ensures .is ∙ ap (indexOf 10) (n .before .first .ensures)) (f .before .if1 .left))
+
+put-ended-requires : tie.Need-put-ended-requires
+put-ended-requires c κs =
+    let t = c .before in
+    omega (arith, t .before .before .before .before .before .before .before .before .pre, ap (λ (l : List ℕ). length (ended l)) (kept t))
+
+same-length-2 : tie.Need-same-length-2
+same-length-2 c = search needs
+
+returns-2 : tie.Need-returns-2
+returns-2 c =
+    let p = c .before .before in
+    let t = p .before .before in
+    let f = t .before .before in
+    let n = f .before .before in
+    let s = n .before .before .before .before .args .rest .now in
+    record {
+      put = rw (sym (kept t)) (p .put-ended .ensures);
+      size = near-size s (n .find .result) (n .find .ensures .is ∙ ap (indexOf 10) (n .before .first .ensures)) (f .before .if1 .left);
+    }
+
+pub put-line-spec : {M : Type 1} → statement M
+put-line-spec =
+    tie.close
+    (tie.spec
+    first-requires
+    find-requires
+    put-long-requires
+    same-length
+    returns
+    first-requires-2
+    trim-ascii-start-requires
+    trim-ascii-end-requires
+    put-ended-requires
+    same-length-2
+    returns-2)

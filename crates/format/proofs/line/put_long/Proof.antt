@@ -1,0 +1,94 @@
+-- `format::line::put_long` meets its contract: the blanks before the line, its pieces, and LF where something was written. Assumes nothing.
+use mathlib.Core.Path.{_≡_, sym, ap, _∙_}
+use mathlib.Core.List.{List, [], _∷_}
+use Prim.Native.Nat.{ℕ, _+_, _-_, _≤_}
+use native.Mathlib.Omega.{arith}
+use lib.ListN.{length, length-append}
+use Rattle.text.specs.Blank.{front, dropEnd, isAsciiBlank, trimAscii}
+use Rattle.text.specs.Wrote.{Put}
+use Rattle.grammar.specs.Units.{notLf}
+use Rattle.text.proofs.DropLaws.{drop-while-le}
+use Rattle.graphics.specs.Block.{isLineBlank}
+use Rattle.format.proofs.AlongLaws.{started-is, started-size}
+use Rattle.format.proofs.PieceLaws.{front-le}
+use Rattle.format.proofs.TakesLaws.{ended-some}
+use Rattle.format.proofs.NormaliseLaws.{ended-le, put-empty, put-ended-at}
+use borrow.Author.Needs.{needs}
+use Rattle.format.proofs.line.put_long.Statement.{statement}
+use Rattle.format.proofs.line.put_long.Tie as tie
+
+-- what stays of the line, as its pieces are told
+kept : (c : tie.After-trim-line-start) → trimAscii (front notLf (c .before .before .before .args .rest .now)) ≡ dropEnd isAsciiBlank (front notLf (c .trim-line-start .result .now))
+kept c = ap (dropEnd isAsciiBlank) (started-is (c .before .before .before .args .rest .now) ∙ ap (front notLf) (sym (c .trim-line-start .ensures)))
+
+size : (c : tie.After-put-pieces) → c .put-pieces .result .size + (length (c .before .before .before .before .before .args .rest .now) - length (c .before .before .trim-line-start .result .now)) ≡ length (front notLf (c .before .before .before .before .before .args .rest .now))
+size c =
+    let t = c .before .before in
+    let s = t .before .before .before .args .rest .now in
+    omega (arith, c .put-pieces .ensures .size, ap (λ (l : List ℕ). length (front notLf l)) (t .trim-line-start .ensures), ap length (t .trim-line-start .ensures), started-size s)
+
+-- the pieces, as what stays of the line
+put : (c : tie.After-put-pieces) → Put (c .put-pieces .last .1 .0) (c .before .before .before .before .before .args .out .now) (c .before .before .before .before .before .args .at) (trimAscii (front notLf (c .before .before .before .before .before .args .rest .now))) (c .put-pieces .result .to)
+put c = rw (kept (c .before .before)) (c .put-pieces .ensures .put)
+
+trim-line-start-requires : tie.Need-trim-line-start-requires
+trim-line-start-requires c κs = search needs
+
+sub-from : tie.Need-sub-from
+sub-from c = let s = c .before .before .before .args .rest .now in omega (arith, ap length (c .trim-line-start .ensures), drop-while-le isLineBlank s)
+
+put-pieces-requires : tie.Need-put-pieces-requires
+put-pieces-requires c κs =
+    let t = c .before in
+    let a = t .before .before .before in
+    omega (arith, a .pre, ap length (kept t), ended-le (trimAscii (front notLf (a .args .rest .now))))
+
+add-size : tie.Need-add-size
+add-size c =
+    let p = c .before .before .before in
+    omega (arith, size p, front-le notLf (p .before .before .before .before .before .args .rest .now))
+
+same-length : tie.Need-same-length
+same-length c = search needs
+
+returns : tie.Need-returns
+returns c =
+    let p = c .before .before .before .before in
+    record { put = put-empty (trimAscii (front notLf (p .before .before .before .before .before .args .rest .now))) (put p) (c .if1 .taken); size = omega (arith, size p) }
+
+slice-write-out : tie.Need-slice-write-out
+slice-write-out c =
+    let p = c .before .before .before .before in
+    let a = p .before .before .before .before .before in
+    let part = trimAscii (front notLf (a .args .rest .now)) in
+    omega (arith, a .pre, put p .next, put p .wrote .long, ap length (ended-some part (omega (arith, put p .next, c .if1 .left))), length-append part (10 ∷ []), c .if1 .left)
+
+add-t9 : tie.Need-add-t9
+add-t9 c =
+    let p = c .before .before .before .before in
+    let a = p .before .before .before .before .before in
+    let part = trimAscii (front notLf (a .args .rest .now)) in
+    omega (arith, a .pre, put p .next, ap length (ended-some part (omega (arith, put p .next, c .if1 .left))), length-append part (10 ∷ []), c .if1 .left)
+
+same-length-2 : tie.Need-same-length-2
+same-length-2 c = search needs
+
+returns-2 : tie.Need-returns-2
+returns-2 c =
+    let p = c .before .before .before .before in
+    record { put = put-ended-at (trimAscii (front notLf (p .before .before .before .before .before .args .rest .now))) (put p) (c .if1 .left); size = omega (arith, size p) }
+
+pub put-long-spec : {M : Type 1} → statement M
+put-long-spec =
+    tie.close
+    (tie.spec
+    trim-line-start-requires
+    sub-from
+    put-pieces-requires
+    add-size
+    same-length
+    returns
+    slice-write-out
+    add-t9
+    same-length-2
+    returns-2)
