@@ -1,5 +1,5 @@
 -- what stands first and the part of it that stays
-pub mod TakesLaws
+pub mod FirstLaws
 -- a line piece by piece
 pub mod PieceLaws
 pub mod AlongLaws

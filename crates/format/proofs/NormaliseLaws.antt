@@ -1,4 +1,4 @@
--- The normalised text from a place on, as the loops over the chunks want it. Assumes nothing.
+-- The normalised text from a place on, as the loops over blocks and lines want it. Assumes nothing.
 use mathlib.Core.Path.{_≡_, refl, sym, ap, _∙_}
 use mathlib.Core.List.{List, [], _∷_, _++_}
 use Prim.Native.Nat.{ℕ, _+_, _-_, _<_, _≤_}
@@ -7,54 +7,28 @@ use lib.Dec.{ltb}
 use lib.ListN.{length, set, length-append, length-drop, take, drop, drop-of-length-le}
 use lib.Seq.{length-take-le, drop-drop, sets}
 use borrow.Author.Tests.{ltb-true, ltb-false}
+use Rattle.text.specs.Blank.{front, trimAscii}
+use Rattle.text.specs.Fields.{indexOf}
 use Rattle.text.specs.Wrote.{Wrote, Put}
 use Rattle.text.proofs.BoolLaws.{test}
+use Rattle.text.proofs.DropSteps.{rest}
 use Rattle.text.proofs.WroteLaws.{wrote, wrote-as, wrote-left}
-use Rattle.text.specs.Blank.{front, trimAscii}
 use Rattle.whole.specs.Language.{First}
 use Rattle.grammar.specs.Units.{EplUnit, notLf}
 use Rattle.grammar.specs.Found.{textLine}
-use Rattle.grammar.specs.Normal.{written, normalised}
-use Rattle.grammar.proofs.LineTurnLaws.{front-index}
+use Rattle.grammar.specs.Normal.{chunk, written, normalised}
 use Rattle.grammar.proofs.ChunkLaws.{normalised-is}
+use Rattle.grammar.proofs.LineTurnLaws.{front-index}
 use Rattle.grammar.proofs.NormalLaws.{normalised-nil}
-use Rattle.format.specs.declared.normalise.Chunk.{Chunk}
-use Rattle.format.specs.Normalise.{ended, TakesAt, Blocks}
-use Rattle.format.proofs.TakesLaws.{ended-some, ended-none, text-line, text-last}
+use Rattle.grammar.proofs.TrimmedLaws.{length-trimmed-le}
+use Rattle.format.specs.Normalise.{ended, Blocks}
+use Rattle.format.proofs.FirstLaws.{ended-some, ended-none, text-line, text-last}
+use Rattle.format.proofs.PieceLaws.{front-le}
 use Rattle.format.proofs.AlongLaws.{index-length}
 
 -- nothing is left at the end
 pub normalised-end : (s : List ℕ) (at : ℕ) → length s ≤ at → normalised (drop at s) ≡ []
 normalised-end s at h = ap normalised (drop-of-length-le s {i = at} h) ∙ normalised-nil
-
--- the part that stays of a chunk at `at`, as `&s[from..end]` gives it
-abbrev pub stays : List ℕ → ℕ → Chunk → List ℕ
-stays s at c = take (at + c .start + c .len - (at + c .start)) (drop (at + c .start) s)
-
--- at a chunk c, which stands first at `at`
-module _ (s : List ℕ) (at : ℕ) (c : Chunk) (here : TakesAt s at c) where
-  stays-is : stays s at c ≡ take (c .len) (drop (at + c .start) s)
-  stays-is = let e : at + c .start + c .len - (at + c .start) ≡ c .len = omega arith in rw e
-
-  stays-length : length (stays s at c) ≡ c .len
-  stays-length = ap length stays-is ∙ length-take-le (c .len) (drop (at + c .start) s) (rw length-drop (omega (arith, here .part, here .inside)))
-
-  pub turn : normalised (drop at s) ≡ ended (stays s at c) ++ normalised (drop (at + c .size) s)
-  turn =
-      normalised-is (drop at s) ∙ here .takes .is normalised
-      ∙ (λ i. ended (take (c .len) (drop-drop (c .start) at s i)) ++ normalised (drop-drop (c .size) at s i))
-      ∙ ap (λ (x : List ℕ). ended x ++ normalised (drop (at + c .size) s)) (sym stays-is)
-
-  turn-length : length (normalised (drop at s)) ≡ length (ended (stays s at c)) + length (normalised (drop (at + c .size) s))
-  turn-length = ap length turn ∙ length-append (ended (stays s at c)) _
-
-  pub counts-some : 0 < c .len → length (normalised (drop at s)) ≡ (c .len + 1) + length (normalised (drop (at + c .size) s))
-  counts-some h =
-      turn-length
-      ∙ omega (arith, stays-length, ap length (ended-some (stays s at c) (omega (arith, stays-length))), length-append (stays s at c) (10 ∷ []))
-
-  pub counts-none : c .len ≤ 0 → length (normalised (drop at s)) ≡ length (normalised (drop (at + c .size) s))
-  counts-none h = turn-length ∙ omega (arith, ap length (ended-none (stays s at c) (omega (arith, stays-length))))
 
 -- ---- a part and the LF behind it
 pub put-none : (part : List ℕ) → length part ≡ 0 → (l : List ℕ) (at : ℕ) → Put l l at (ended part) at
@@ -90,34 +64,75 @@ module _ {m l : List ℕ} {at r : ℕ} (part : List ℕ) (p : Put m l at part r)
       let s = put-some part (λ e. omega (arith, h, p .next, e)) m l at (p .wrote) in
       record { wrote = wrote (ap (λ (k : ℕ). set m k 10) (p .next) ∙ s .wrote .is); next = omega (arith, s .next, p .next) }
 
--- ---- at a place: r is what stands there
-module _ (s : List ℕ) (at : ℕ) (r : List ℕ) (here : r ≡ drop at s) (n : ℕ) (b : Blocks r n) where
-  behind : (k : ℕ) → normalised (drop k r) ≡ normalised (drop (at + k) s)
-  behind k = ap (λ (l : List ℕ). normalised (drop k l)) here ∙ ap normalised (drop-drop k at s)
+-- ---- what stands at a place, as `&s[at..]` gives it
+abbrev pub here : List ℕ → ℕ → List ℕ
+here s at = take (length s - at) (drop at s)
 
-  pub block-turn : 0 < n → normalised (drop at s) ≡ ended (take n r) ++ normalised (drop (at + n) s)
-  block-turn h = ap normalised (sym here) ∙ normalised-is r ∙ b .block h .is normalised ∙ ap (λ (l : List ℕ). ended (take n r) ++ l) (behind n)
+module _ (s : List ℕ) (at n : ℕ) (in-s : at < length s) (b : Blocks (here s at) n) where
+  long : length (here s at) ≡ length s - at
+  long = ap length (rest s at) ∙ length-drop at s
 
-  pub block-in : 0 < n → at ≤ length s → at + n ≤ length s
-  block-in h k = omega (arith, b .block h .inside, ap length here, length-drop at s)
+  by-chunk : normalised (drop at s) ≡ written (chunk (here s at)) normalised
+  by-chunk = ap normalised (sym (rest s at)) ∙ normalised-is (here s at)
 
-  -- a line, which goes on for k bytes
-  module _ (none : n ≤ 0) (k : ℕ) (size : k ≡ length (front notLf r)) where
-    line-by : normalised (drop at s) ≡ written (textLine r) normalised
-    line-by = ap normalised (sym here) ∙ normalised-is r ∙ ap (λ (f : First EplUnit). written f normalised) (b .line (omega (arith, none)))
+  behind : (k : ℕ) → normalised (drop k (here s at)) ≡ normalised (drop (at + k) s)
+  behind k = ap (λ (l : List ℕ). normalised (drop k l)) (rest s at) ∙ ap normalised (drop-drop k at s)
 
-    kept-is : take k r ≡ front notLf r
-    kept-is = ap (λ (j : ℕ). take j r) (size ∙ index-length r) ∙ sym (front-index r)
+  -- a block of n bytes
+  pub block-in : at + n ≤ length s
+  block-in = omega (arith, b .inside, long, in-s)
 
-    pub line-turn : k < length r → normalised (drop at s) ≡ ended (trimAscii (front notLf r)) ++ normalised (drop (at + (k + 1)) s)
-    line-turn h = line-by ∙ text-line r k (size ∙ index-length r) h normalised ∙ (λ i. ended (trimAscii (kept-is i)) ++ behind (k + 1) i)
+  pub block-turn : 0 < n → normalised (drop at s) ≡ ended (take n (here s at)) ++ normalised (drop (at + n) s)
+  block-turn h = by-chunk ∙ b .block h normalised ∙ ap (λ (l : List ℕ). ended (take n (here s at)) ++ l) (behind n)
 
-    pub last-turn : 0 < length r → length r ≤ k → normalised (drop at s) ≡ ended (trimAscii (front notLf r)) ++ normalised (drop (at + k) s)
-    last-turn p h = line-by ∙ text-last r k (size ∙ index-length r) p h normalised ∙ (λ i. ended (trimAscii (kept-is i)) ++ behind k i)
+  pub block-counts : 0 < n → length (normalised (drop at s)) ≡ n + 1 + length (normalised (drop (at + n) s))
+  block-counts h =
+      let part = take n (here s at) in
+      let l = length-take-le n (here s at) (b .inside) in
+      omega (arith, ap length (block-turn h), length-append (ended part) (normalised (drop (at + n) s)), ended-length part (λ z. omega (arith, z, l, h)), l)
 
-    pub line-le : 0 < length r → length (ended (trimAscii (front notLf r))) ≤ length (normalised (drop at s))
-    line-le p =
-        let part = ended (trimAscii (front notLf r)) in
-        test (ltb k (length r))
-        (λ e. omega (arith, ap length (line-turn (ltb-true k (length r) e)), length-append part (normalised (drop (at + (k + 1)) s))))
-        (λ e. omega (arith, ap length (last-turn p (ltb-false k (length r) e)), length-append part (normalised (drop (at + k) s))))
+  -- a line of k bytes, with an LF behind it and without one
+  module _ (none : n ≤ 0) (k : ℕ) (size : k ≡ length (front notLf (here s at))) where
+    abbrev part : List ℕ
+    part = trimAscii (front notLf (here s at))
+
+    pub line-in : at + k ≤ length s
+    line-in = omega (arith, size, long, front-le notLf (here s at), in-s)
+
+    by-line : normalised (drop at s) ≡ written (textLine (here s at)) normalised
+    by-line = by-chunk ∙ ap (λ (f : First EplUnit). written f normalised) (b .line (omega (arith, none)))
+
+    index : k ≡ indexOf 10 (here s at)
+    index = size ∙ index-length (here s at)
+
+    line-is : take k (here s at) ≡ front notLf (here s at)
+    line-is = ap (λ (j : ℕ). take j (here s at)) index ∙ sym (front-index (here s at))
+
+    -- so many bytes are left of it, and with an LF where there are any
+    module _ (m : ℕ) (left : m ≡ length part) where
+      pub left-le : m ≤ k
+      left-le = omega (arith, left, size, length-trimmed-le (front notLf (here s at)))
+
+      pub ended-some-left : 0 < m → length (ended part) ≡ m + 1
+      ended-some-left h = omega (arith, left, ended-length part (λ z. omega (arith, z, left, h)))
+
+      pub ended-none-left : m ≤ 0 → length (ended part) ≡ 0
+      ended-none-left h = ap length (ended-none part (omega (arith, left, h)))
+
+    pub line-turn : at + k < length s → normalised (drop at s) ≡ ended part ++ normalised (drop (at + k + 1) s)
+    line-turn h =
+        let a : at + (k + 1) ≡ at + k + 1 = omega arith in
+        by-line ∙ text-line (here s at) k index (omega (arith, long, h)) normalised
+        ∙ (λ i. ended (trimAscii (line-is i)) ++ behind (k + 1) i)
+        ∙ ap (λ (j : ℕ). ended part ++ normalised (drop j s)) a
+
+    pub last-turn : length s ≤ at + k → normalised (drop at s) ≡ ended part ++ normalised (drop (at + k) s)
+    last-turn h =
+        by-line ∙ text-last (here s at) k index (omega (arith, long, in-s)) (omega (arith, long, h)) normalised
+        ∙ (λ i. ended (trimAscii (line-is i)) ++ behind k i)
+
+    pub line-le : length (ended part) ≤ length (normalised (drop at s))
+    line-le =
+        test (ltb (at + k) (length s))
+        (λ e. omega (arith, ap length (line-turn (ltb-true (at + k) (length s) e)), length-append (ended part) (normalised (drop (at + k + 1) s))))
+        (λ e. omega (arith, ap length (last-turn (ltb-false (at + k) (length s) e)), length-append (ended part) (normalised (drop (at + k) s))))

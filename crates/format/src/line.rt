@@ -6,7 +6,7 @@ ghost use lib.ListN.{length, take};
 ghost use Rattle.text.specs.Blank.{front, dropEnd, isAsciiBlank, trimAscii};
 ghost use Rattle.text.specs.Wrote.{Put};
 ghost use Rattle.grammar.specs.Units.{notLf};
-ghost use Rattle.format.specs.Normalise.{ended, PutsLine, PutsPieces};
+ghost use Rattle.format.specs.Normalise.{ended, Keeps, PutsLine, PutsPieces};
 use bytes::put::put_bytes;
 use bytes::scan::find;
 use graphics::gw_span::trim_line_start;
@@ -21,6 +21,24 @@ const PIECE: usize = 4096;
 pub struct Line {
     pub size: usize,
     pub to: usize,
+}
+
+// A line that was looked through: its bytes without its LF, and how many are left without the blanks at its ends.
+pub struct Kept {
+    pub size: usize,
+    pub len: usize,
+}
+
+// The line that stands first in rest.
+pub fn line_len(rest: &[u8]) -> Kept
+    ensures { λ r. ⌜ Keeps (now (rest .entry)) r ⌝ }
+{
+    let n = find(rest, 10);
+    let kept = trim_ascii_end(trim_ascii_start(first(rest, n)));
+    Kept {
+        size: n,
+        len: kept.len(),
+    }
 }
 
 // A part and the LF behind it; nothing for a part of no bytes.

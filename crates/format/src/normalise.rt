@@ -7,12 +7,11 @@ ghost use Rattle.text.specs.Wrote.{Put};
 ghost use Rattle.whole.specs.Given.{Fills};
 ghost use Rattle.whole.specs.Step.{longest};
 ghost use Rattle.grammar.specs.Filled.{givenOf};
-ghost use Rattle.grammar.specs.Found.{textLine};
 ghost use Rattle.grammar.specs.Normal.{normalised};
-ghost use Rattle.format.specs.Normalise.{dueOf, Takes, TakesAt, Blocks};
+ghost use Rattle.format.specs.Normalise.{dueOf, Blocks};
+use crate::line::line_len;
 use crate::line::put_ended;
 use crate::line::put_line;
-use bytes::scan::find;
 use elements::filled::Filled;
 use elements::refusal::INPUT_MAX;
 use elements::refusal::Refusal;
@@ -20,38 +19,6 @@ use graphics::gw_span::Graphic;
 use graphics::gw_span::gw_span;
 use graphics::gw_span::opens_gw;
 use numbers::blank::first;
-use numbers::blank::trim_ascii_end;
-use numbers::blank::trim_ascii_start;
-
-// What stands first: its bytes, and the part of them that stays. Nothing is written for a part of no bytes.
-pub struct Chunk {
-    pub size: usize,
-    pub start: usize,
-    pub len: usize,
-}
-
-// A line, whatever it says: what is between the ASCII blanks at its ends.
-fn line_chunk(rest: &[u8]) -> Chunk
-    requires { ⌜ 0 < length (now rest) ⌝ }
-    ensures { λ r. ⌜ Takes (now (rest .entry)) (textLine (now (rest .entry))) r ⌝ }
-{
-    let n = find(rest, 10);
-    let started = trim_ascii_start(&rest[..n]);
-    let start = n - started.len();
-    let len = trim_ascii_end(started).len();
-    if n < rest.len() {
-        return Chunk {
-            size: n + 1,
-            start,
-            len,
-        };
-    }
-    Chunk {
-        size: n,
-        start,
-        len,
-    }
-}
 
 // How many bytes the block has that stands first in rest, which goes to the end of input; 0 where a line is taken. A malformed `GW` line is a line.
 fn block_len(rest: &[u8]) -> usize
@@ -67,23 +34,6 @@ fn block_len(rest: &[u8]) -> usize
     }
 }
 
-// What stands first at a place: a block, else a line.
-fn chunk_at(input: &[u8], at: usize) -> Chunk
-    requires { ⌜ at < length (now input) ⌝ }
-    ensures { λ r. ⌜ TakesAt (now (input .entry)) at r ⌝ }
-{
-    let rest = &input[at..];
-    let n = block_len(rest);
-    if 0 < n {
-        return Chunk {
-            size: n,
-            start: 0,
-            len: n,
-        };
-    }
-    line_chunk(rest)
-}
-
 // The length of the normalised text: one pass, nothing written.
 fn measure(input: &[u8]) -> usize
     requires { ⌜ length (now input) ≤ longest ⌝ }
@@ -92,11 +42,21 @@ fn measure(input: &[u8]) -> usize
     let mut at = 0;
     let mut total = 0;
     while at < input.len() {
-        let c = chunk_at(input, at);
-        if 0 < c.len {
-            total += c.len + 1;
+        let rest = &input[at..];
+        let n = block_len(rest);
+        if 0 < n {
+            total += n + 1;
+            at += n;
+        } else {
+            let l = line_len(rest);
+            if 0 < l.len {
+                total += l.len + 1;
+            }
+            at += l.size;
+            if at < input.len() {
+                at += 1;
+            }
         }
-        at += c.size;
     }
     total
 }

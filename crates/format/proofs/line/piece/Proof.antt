@@ -1,10 +1,8 @@
 -- `format::line::piece` meets its contract. Assumes nothing.
-use mathlib.Core.Path.{_≡_, sym, ap, _∙_}
-use mathlib.Core.List.{List}
+use mathlib.Core.Path.{sym, ap, _∙_}
 use Prim.Native.Nat.{ℕ}
 use lib.ListN.{take}
 use Rattle.text.specs.Blank.{front}
-use Rattle.text.specs.Fields.{indexOf}
 use Rattle.grammar.specs.Units.{notLf}
 use Rattle.grammar.proofs.LineTurnLaws.{front-index}
 use borrow.Author.Needs.{needs}

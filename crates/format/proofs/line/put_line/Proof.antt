@@ -1,16 +1,12 @@
 -- `format::line::put_line` meets its contract: a line that ends within a piece at once, and a longer one by its pieces. Assumes nothing.
 use mathlib.Core.Path.{_≡_, sym, ap, _∙_}
-use mathlib.Core.Bool.{true}
 use mathlib.Core.List.{List}
-use Prim.Native.Nat.{ℕ, _<_, _≤_}
+use Prim.Native.Nat.{ℕ}
 use native.Mathlib.Omega.{arith}
-use lib.ListN.{length, take, length-take}
-use lib.Seq.{length-take-le}
-use Rattle.text.specs.Blank.{front, dropWhile, dropEnd, isAsciiBlank, trimAscii}
+use lib.ListN.{length}
+use Rattle.text.specs.Blank.{front, dropEnd, isAsciiBlank, trimAscii}
 use Rattle.text.specs.Fields.{indexOf}
-use Rattle.text.proofs.FieldsLaws.{index-le}
 use Rattle.grammar.specs.Units.{notLf}
-use Rattle.grammar.proofs.LineTurnLaws.{front-index}
 use Rattle.format.specs.Normalise.{ended}
 use Rattle.format.proofs.AlongLaws.{near-size, near-is}
 use borrow.Author.Needs.{needs}

@@ -1,7 +1,7 @@
 -- `format::line::put_long` meets its contract: the blanks before the line, its pieces, and LF where something was written. Assumes nothing.
 use mathlib.Core.Path.{_≡_, sym, ap, _∙_}
 use mathlib.Core.List.{List, [], _∷_}
-use Prim.Native.Nat.{ℕ, _+_, _-_, _≤_}
+use Prim.Native.Nat.{ℕ, _+_, _-_}
 use native.Mathlib.Omega.{arith}
 use lib.ListN.{length, length-append}
 use Rattle.text.specs.Blank.{front, dropEnd, isAsciiBlank, trimAscii}
@@ -11,7 +11,7 @@ use Rattle.text.proofs.DropLaws.{drop-while-le}
 use Rattle.graphics.specs.Block.{isLineBlank}
 use Rattle.format.proofs.AlongLaws.{started-is, started-size}
 use Rattle.format.proofs.PieceLaws.{front-le}
-use Rattle.format.proofs.TakesLaws.{ended-some}
+use Rattle.format.proofs.FirstLaws.{ended-some}
 use Rattle.format.proofs.NormaliseLaws.{ended-le, put-empty, put-ended-at}
 use borrow.Author.Needs.{needs}
 use Rattle.format.proofs.line.put_long.Statement.{statement}

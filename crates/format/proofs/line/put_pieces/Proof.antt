@@ -4,7 +4,7 @@ use mathlib.Core.Logic.{_⊎_, ⊎-elim, inl, inr}
 use mathlib.Core.List.{List}
 use Prim.Native.Nat.{ℕ, _+_, _-_, _<_, _≤_}
 use native.Mathlib.Omega.{arith}
-use lib.ListN.{length, take, drop, length-take}
+use lib.ListN.{length, take, drop}
 use Rattle.text.specs.Blank.{front, dropEnd, isAsciiBlank}
 use Rattle.text.proofs.Toward.{room}
 use Rattle.grammar.specs.Units.{notLf}

@@ -4,7 +4,7 @@ use mathlib.Core.List.{List}
 use Prim.Native.Nat.{ℕ}
 use borrow.Author.Tests.{not-true}
 use Rattle.graphics.specs.declared.gw_span.Graphic.the-variants.{Nothing, Refused}
-use Rattle.format.proofs.TakesLaws.{no-block, no-opening, one-block}
+use Rattle.format.proofs.FirstLaws.{no-block, no-opening, one-block}
 use borrow.Author.Needs.{needs}
 use Rattle.format.proofs.normalise.block_len.Statement.{statement}
 use Rattle.format.proofs.normalise.block_len.Tie as tie

@@ -4,15 +4,11 @@ use mathlib.Core.Path.{_≡_, refl, sym, ap, _∙_}
 use mathlib.Core.List.{List, _++_}
 use Prim.Native.Nat.{ℕ, _+_, _-_, _<_, _≤_}
 use native.Mathlib.Omega.{arith}
-use lib.ListN.{length, length-drop, take, drop}
-use Rattle.text.specs.Blank.{front, trimAscii}
-use Rattle.text.proofs.DropSteps.{rest}
+use lib.ListN.{length, drop}
 use Rattle.text.proofs.Toward.{Toward, begin, room, put, finish}
-use Rattle.grammar.specs.Units.{notLf}
 use Rattle.grammar.specs.Normal.{normalised}
 use Rattle.format.specs.Normalise.{ended}
-use Rattle.format.proofs.PieceLaws.{front-le}
-use Rattle.format.proofs.NormaliseLaws.{normalised-end, block-turn, block-in, line-turn, last-turn, line-le}
+use Rattle.format.proofs.NormaliseLaws.{normalised-end, block-turn, block-in, line-in, line-turn, last-turn, line-le}
 use borrow.Author.Needs.{needs}
 use Rattle.format.proofs.normalise.put_chunks.Statement.{statement}
 use Rattle.format.proofs.normalise.put_chunks.Tie as tie
@@ -23,7 +19,7 @@ Inv-loop input out₀ at₀ to₀ out at to = (at ≤ length input) × Toward ou
 abbrev μ-loop : tie.MeasureT-loop
 μ-loop input out₀ at₀ to₀ out at to = length input - at
 
--- what stands first is known: the loop that it is in, the input, the place and what stands there
+-- what stands first is known: the loop that it is in, the input, and the place
 module _ (d : tie.After-block-len Inv-loop μ-loop) where
   abbrev turn : tie.At-loop Inv-loop μ-loop
   turn = d .before .before .before
@@ -34,35 +30,8 @@ module _ (d : tie.After-block-len Inv-loop μ-loop) where
   abbrev place : ℕ
   place = turn .loop .at
 
-  abbrev here : List ℕ
-  here = take (length src - place) (drop place src)
-
-  long : length here ≡ length src - place
-  long = ap length (rest src place) ∙ length-drop place src
-
-  -- a block
-  block : 0 < d .block-len .result → normalised (drop place src) ≡ ended (take (d .block-len .result) here) ++ normalised (drop (place + d .block-len .result) src)
-  block = block-turn src place here (rest src place) (d .block-len .result) (d .block-len .ensures)
-
-  block-fits : 0 < d .block-len .result → place + d .block-len .result ≤ length src
-  block-fits h = block-in src place here (rest src place) (d .block-len .result) (d .block-len .ensures) h (turn .loop .inv .0)
-
-  -- a line of k bytes, with an LF behind it and without one
-  module _ (h : d .block-len .result ≤ 0) where
-    with-lf : (k : ℕ) → k ≡ length (front notLf here) → place + k < length src → normalised (drop place src) ≡ ended (trimAscii (front notLf here)) ++ normalised (drop (place + k + 1) src)
-    with-lf k e l =
-        let a : place + (k + 1) ≡ place + k + 1 = omega arith in
-        line-turn src place here (rest src place) (d .block-len .result) (d .block-len .ensures) h k e (omega (arith, long, l))
-        ∙ ap (λ (j : ℕ). ended (trimAscii (front notLf here)) ++ normalised (drop j src)) a
-
-    without : (k : ℕ) → k ≡ length (front notLf here) → length src ≤ place + k → normalised (drop place src) ≡ ended (trimAscii (front notLf here)) ++ normalised (drop (place + k) src)
-    without k e l = last-turn src place here (rest src place) (d .block-len .result) (d .block-len .ensures) h k e (omega (arith, long, d .before .before .loop-test .taken)) (omega (arith, long, l))
-
-    line-fits : length (ended (trimAscii (front notLf here))) ≤ length (normalised (drop place src))
-    line-fits = line-le src place here (rest src place) (d .block-len .result) (d .block-len .ensures) h (length (front notLf here)) refl (omega (arith, long, d .before .before .loop-test .taken))
-
-    size-le : (k : ℕ) → k ≡ length (front notLf here) → place + k ≤ length src
-    size-le k e = omega (arith, e, long, front-le notLf here, turn .loop .inv .0)
+  abbrev in-src : place < length src
+  in-src = d .before .before .loop-test .taken
 
 loop-holds : tie.Need-loop-holds Inv-loop μ-loop
 loop-holds c = (omega arith, begin _ _ _)
@@ -86,7 +55,7 @@ first-requires c κs = search needs
 whole : (c : tie.After-first Inv-loop μ-loop) → normalised (drop (place (c .before .before)) (src (c .before .before))) ≡ ended (c .first .result .now) ++ normalised (drop (place (c .before .before) + c .before .before .block-len .result) (src (c .before .before)))
 whole c =
     let d = c .before .before in
-    block d (c .before .if1 .taken) ∙ ap (λ (l : List ℕ). ended l ++ normalised (drop (place d + d .block-len .result) (src d))) (sym (c .first .ensures))
+    block-turn (src d) (place d) (d .block-len .result) (in-src d) (d .block-len .ensures) (c .before .if1 .taken) ∙ ap (λ (l : List ℕ). ended l ++ normalised (drop (place d + d .block-len .result) (src d))) (sym (c .first .ensures))
 
 put-ended-requires : tie.Need-put-ended-requires Inv-loop μ-loop
 put-ended-requires c κs =
@@ -95,29 +64,34 @@ put-ended-requires c κs =
     room (turn d .loop .inv .1) (ended (f .first .result .now)) (normalised (drop (place d + d .block-len .result) (src d))) (omega arith) (whole f)
 
 add-at : tie.Need-add-at Inv-loop μ-loop
-add-at c = let t = c .before .before .before .before .before in omega (arith, block-fits (t .before) (t .if1 .taken))
+add-at c = let d = c .before .before .before .before .before .before in omega (arith, block-in (src d) (place d) (d .block-len .result) (in-src d) (d .block-len .ensures))
 
 loop-less : tie.Need-loop-less Inv-loop μ-loop
-loop-less c = let t = c .before .before .before .before .before in omega (arith, t .if1 .taken, block-fits (t .before) (t .if1 .taken))
+loop-less c =
+    let t = c .before .before .before .before .before in
+    let d = t .before in
+    omega (arith, t .if1 .taken, block-in (src d) (place d) (d .block-len .result) (in-src d) (d .block-len .ensures))
 
 loop-again : tie.Need-loop-again Inv-loop μ-loop
 loop-again c =
     let p = c .before .before in
     let f = p .before .before in
     let d = f .before .before in
-    (block-fits d (f .before .if1 .taken), put (turn d .loop .inv .1) (normalised (drop (place d + d .block-len .result) (src d))) (whole f) (p .put-ended .ensures))
+    (block-in (src d) (place d) (d .block-len .result) (in-src d) (d .block-len .ensures), put (turn d .loop .inv .1) (normalised (drop (place d + d .block-len .result) (src d))) (whole f) (p .put-ended .ensures))
 
 put-line-requires : tie.Need-put-line-requires Inv-loop μ-loop
 put-line-requires c κs =
     let e = c .before in
-    let t = turn (e .before) .loop .inv .1 in
-    omega (arith, line-fits (e .before) (e .if1 .left), t .ends, t .long, turn (e .before) .before .before .before .pre)
+    let d = e .before in
+    let t = turn d .loop .inv .1 in
+    omega (arith, line-le (src d) (place d) (d .block-len .result) (in-src d) (d .block-len .ensures) (e .if1 .left) _ refl, t .ends, t .long, turn d .before .before .before .pre)
 
 add-at-2 : tie.Need-add-at-2 Inv-loop μ-loop
 add-at-2 c =
     let p = c .before .before .before in
     let e = p .before .before in
-    omega (arith, size-le (e .before) (e .if1 .left) (p .put-line .result .size) (p .put-line .ensures .size))
+    let d = e .before in
+    omega (arith, line-in (src d) (place d) (d .block-len .result) (in-src d) (d .block-len .ensures) (e .if1 .left) _ (p .put-line .ensures .size))
 
 add-at-3 : tie.Need-add-at-3 Inv-loop μ-loop
 add-at-3 c = omega (arith, c .if2 .taken)
@@ -131,7 +105,7 @@ loop-again-2 c =
     let e = p .before .before in
     let d = e .before in
     let k = p .put-line .result .size in
-    (omega (arith, c .if2 .taken), put (turn d .loop .inv .1) (normalised (drop (place d + k + 1) (src d))) (with-lf d (e .if1 .left) k (p .put-line .ensures .size) (c .if2 .taken)) (p .put-line .ensures .put))
+    (omega (arith, c .if2 .taken), put (turn d .loop .inv .1) (normalised (drop (place d + k + 1) (src d))) (line-turn (src d) (place d) (d .block-len .result) (in-src d) (d .block-len .ensures) (e .if1 .left) k (p .put-line .ensures .size) (c .if2 .taken)) (p .put-line .ensures .put))
 
 loop-less-3 : tie.Need-loop-less-3 Inv-loop μ-loop
 loop-less-3 c =
@@ -144,7 +118,7 @@ loop-again-3 c =
     let e = p .before .before in
     let d = e .before in
     let k = p .put-line .result .size in
-    (size-le d (e .if1 .left) k (p .put-line .ensures .size), put (turn d .loop .inv .1) (normalised (drop (place d + k) (src d))) (without d (e .if1 .left) k (p .put-line .ensures .size) (c .if2 .left)) (p .put-line .ensures .put))
+    (line-in (src d) (place d) (d .block-len .result) (in-src d) (d .block-len .ensures) (e .if1 .left) k (p .put-line .ensures .size), put (turn d .loop .inv .1) (normalised (drop (place d + k) (src d))) (last-turn (src d) (place d) (d .block-len .result) (in-src d) (d .block-len .ensures) (e .if1 .left) k (p .put-line .ensures .size) (c .if2 .left)) (p .put-line .ensures .put))
 
 same-length : tie.Need-same-length Inv-loop μ-loop
 same-length c = c .before .loop .inv .1 .long

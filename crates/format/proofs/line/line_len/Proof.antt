@@ -1,0 +1,38 @@
+-- `format::line::line_len` meets its contract. Assumes nothing.
+use mathlib.Core.Path.{sym, ap, _∙_}
+use Prim.Native.Nat.{ℕ}
+use lib.ListN.{length, take}
+use Rattle.text.specs.Blank.{dropEnd, isAsciiBlank, trimAscii}
+use Rattle.grammar.proofs.LineTurnLaws.{front-index}
+use Rattle.format.proofs.AlongLaws.{index-length}
+use borrow.Author.Needs.{needs}
+use Rattle.format.proofs.line.line_len.Statement.{statement}
+use Rattle.format.proofs.line.line_len.Tie as tie
+
+find-requires : tie.Need-find-requires
+find-requires c κs = search needs
+
+first-requires : tie.Need-first-requires
+first-requires c κs = search needs
+
+trim-ascii-start-requires : tie.Need-trim-ascii-start-requires
+trim-ascii-start-requires c κs = search needs
+
+trim-ascii-end-requires : tie.Need-trim-ascii-end-requires
+trim-ascii-end-requires c κs = search needs
+
+returns : tie.Need-returns
+returns c =
+    let f = c .before .before in
+    let n = f .before in
+    let s = n .before .before .args .rest .now in
+    record {
+      size = n .find .ensures .is ∙ sym (index-length s);
+      len = ap length (
+          c .trim-ascii-end .ensures ∙ ap (dropEnd isAsciiBlank) (c .before .trim-ascii-start .ensures)
+          ∙ ap trimAscii (f .first .ensures ∙ ap (λ (k : ℕ). take k s) (n .find .ensures .is) ∙ sym (front-index s))
+          );
+    }
+
+pub line-len-spec : {M : Type 1} → statement M
+line-len-spec = tie.close (tie.spec find-requires first-requires trim-ascii-start-requires trim-ascii-end-requires returns)
