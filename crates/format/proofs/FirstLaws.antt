@@ -26,20 +26,14 @@ use Rattle.grammar.proofs.LineLaws.{line-by}
 use Rattle.grammar.proofs.LineTurnLaws.{front-index}
 use Rattle.grammar.proofs.ChunkLaws.{chunk-sound}
 use Rattle.grammar.proofs.TrimmedLaws.{behind, inside}
-use Rattle.format.specs.Normalise.{ended, Blocks}
+use Rattle.lines.specs.Lines.{ended}
+use Rattle.lines.proofs.EndedLaws.{ended-some}
+use Rattle.format.specs.Normalise.{Blocks}
 
 -- ---- a part with the LF behind it
 kept-ended : (t : List ℕ) → each bytes (kept t) ≡ ended t
 kept-ended [] = refl
 kept-ended (b ∷ t) = append-nil _
-
-pub ended-some : (t : List ℕ) → 0 < length t → ended t ≡ t ++ 10 ∷ []
-ended-some [] h = absurd (omega arith)
-ended-some (b ∷ t) h = refl
-
-pub ended-none : (t : List ℕ) → length t ≡ 0 → ended t ≡ []
-ended-none [] h = refl
-ended-none (b ∷ t) h = absurd (omega arith)
 
 -- where the first line ends
 drop-index : (s : List ℕ) → dropWhile notLf s ≡ drop (indexOf 10 s) s

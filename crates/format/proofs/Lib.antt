@@ -1,7 +1,4 @@
--- what stands first and the part of it that stays
+-- what stands first
 pub mod FirstLaws
--- a line piece by piece
-pub mod PieceLaws
-pub mod AlongLaws
 -- the normalised text from a place on
 pub mod NormaliseLaws

@@ -1,18 +1,16 @@
 -- The normalised text from a place on, as the loops over blocks and lines want it. Assumes nothing.
-use mathlib.Core.Path.{_≡_, refl, sym, ap, _∙_}
-use mathlib.Core.List.{List, [], _∷_, _++_}
+use mathlib.Core.Path.{_≡_, sym, ap, _∙_}
+use mathlib.Core.List.{List, [], _++_}
 use Prim.Native.Nat.{ℕ, _+_, _-_, _<_, _≤_}
 use native.Mathlib.Omega.{arith}
 use lib.Dec.{ltb}
-use lib.ListN.{length, set, length-append, length-drop, take, drop, drop-of-length-le}
-use lib.Seq.{length-take-le, drop-drop, sets}
+use lib.ListN.{length, length-append, length-drop, take, drop, drop-of-length-le}
+use lib.Seq.{length-take-le, drop-drop}
 use borrow.Author.Tests.{ltb-true, ltb-false}
 use Rattle.text.specs.Blank.{front, trimAscii}
 use Rattle.text.specs.Fields.{indexOf}
-use Rattle.text.specs.Wrote.{Wrote, Put}
 use Rattle.text.proofs.BoolLaws.{test}
 use Rattle.text.proofs.DropSteps.{rest}
-use Rattle.text.proofs.WroteLaws.{wrote, wrote-as, wrote-left}
 use Rattle.whole.specs.Language.{First}
 use Rattle.grammar.specs.Units.{EplUnit, notLf}
 use Rattle.grammar.specs.Found.{textLine}
@@ -21,48 +19,16 @@ use Rattle.grammar.proofs.ChunkLaws.{normalised-is}
 use Rattle.grammar.proofs.LineTurnLaws.{front-index}
 use Rattle.grammar.proofs.NormalLaws.{normalised-nil}
 use Rattle.grammar.proofs.TrimmedLaws.{length-trimmed-le}
-use Rattle.format.specs.Normalise.{ended, Blocks}
-use Rattle.format.proofs.FirstLaws.{ended-some, ended-none, text-line, text-last}
-use Rattle.format.proofs.PieceLaws.{front-le}
-use Rattle.format.proofs.AlongLaws.{index-length}
+use Rattle.lines.specs.Lines.{ended}
+use Rattle.format.specs.Normalise.{Blocks}
+use Rattle.lines.proofs.EndedLaws.{ended-none, ended-length}
+use Rattle.format.proofs.FirstLaws.{text-line, text-last}
+use Rattle.lines.proofs.PieceLaws.{front-le}
+use Rattle.lines.proofs.AlongLaws.{index-length}
 
 -- nothing is left at the end
 pub normalised-end : (s : List ℕ) (at : ℕ) → length s ≤ at → normalised (drop at s) ≡ []
 normalised-end s at h = ap normalised (drop-of-length-le s {i = at} h) ∙ normalised-nil
-
--- ---- a part and the LF behind it
-pub put-none : (part : List ℕ) → length part ≡ 0 → (l : List ℕ) (at : ℕ) → Put l l at (ended part) at
-put-none part h l at = let e = ended-none part h in record { wrote = wrote (sym (ap (sets l at) e)); next = omega (arith, ap length e) }
-
-module _ (part : List ℕ) (h : length part ≡ 0 → ⊥) where
-  whole : ended part ≡ part ++ 10 ∷ []
-  whole = ended-some part (omega (arith, h))
-
-  pub ended-length : length (ended part) ≡ length part + 1
-  ended-length = ap length whole ∙ length-append part (10 ∷ [])
-
-  pub put-some : (m l : List ℕ) (at : ℕ) → Wrote m l at part → Put (set m (at + length part) 10) l at (ended part) (at + length part + 1)
-  put-some m l at w = record { wrote = wrote (wrote-left part (10 ∷ []) w ∙ ap (sets l at) (sym whole)); next = omega (arith, ended-length) }
-
-pub ended-le : (part : List ℕ) → length part ≤ length (ended part)
-ended-le [] = omega arith
-ended-le (b ∷ part) = omega (arith, length-append (b ∷ part) (10 ∷ []))
-
--- a part is written, r the place behind it: nothing follows where it is empty, and LF else
-module _ {m l : List ℕ} {at r : ℕ} (part : List ℕ) (p : Put m l at part r) where
-  pub put-empty : r ≤ at → Put m l at (ended part) at
-  put-empty h =
-      let e = ended-none part (omega (arith, h, p .next)) in
-      record { wrote = wrote-as (e ∙ sym (none part (omega (arith, h, p .next)))) (p .wrote); next = omega (arith, ap length e) }
-    where
-      none : (x : List ℕ) → length x ≡ 0 → x ≡ []
-      none [] h = refl
-      none (b ∷ x) h = absurd (omega (arith, h))
-
-  pub put-ended-at : at < r → Put (set m r 10) l at (ended part) (r + 1)
-  put-ended-at h =
-      let s = put-some part (λ e. omega (arith, h, p .next, e)) m l at (p .wrote) in
-      record { wrote = wrote (ap (λ (k : ℕ). set m k 10) (p .next) ∙ s .wrote .is); next = omega (arith, s .next, p .next) }
 
 -- ---- what stands at a place, as `&s[at..]` gives it
 abbrev pub here : List ℕ → ℕ → List ℕ

@@ -1,3 +1,2 @@
 // The normalised text of a file, into a buffer that the host lends.
-pub mod line;
 pub mod normalise;

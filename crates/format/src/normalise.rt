@@ -9,15 +9,15 @@ ghost use Rattle.whole.specs.Step.{longest};
 ghost use Rattle.grammar.specs.Filled.{givenOf};
 ghost use Rattle.grammar.specs.Normal.{normalised};
 ghost use Rattle.format.specs.Normalise.{dueOf, Blocks};
-use crate::line::line_len;
-use crate::line::put_ended;
-use crate::line::put_line;
 use elements::filled::Filled;
 use elements::refusal::INPUT_MAX;
 use elements::refusal::Refusal;
 use graphics::gw_span::Graphic;
 use graphics::gw_span::gw_span;
 use graphics::gw_span::opens_gw;
+use lines::line::line_len;
+use lines::line::put_ended;
+use lines::line::put_line;
 use numbers::blank::first;
 
 // How many bytes the block has that stands first in rest, which goes to the end of input; 0 where a line is taken. A malformed `GW` line is a line.

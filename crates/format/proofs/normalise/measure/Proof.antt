@@ -9,7 +9,7 @@ use lib.ListN.{length, length-append, drop}
 use Rattle.text.specs.Blank.{front, trimAscii}
 use Rattle.grammar.specs.Units.{notLf}
 use Rattle.grammar.specs.Normal.{normalised}
-use Rattle.format.specs.Normalise.{ended}
+use Rattle.lines.specs.Lines.{ended}
 use Rattle.format.proofs.NormaliseLaws.{here, normalised-end, block-in, block-counts, line-in, left-le, ended-some-left, ended-none-left, line-turn, last-turn}
 use borrow.Author.Needs.{needs}
 use Rattle.format.proofs.normalise.measure.Statement.{statement}

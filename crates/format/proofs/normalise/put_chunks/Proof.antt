@@ -7,7 +7,7 @@ use native.Mathlib.Omega.{arith}
 use lib.ListN.{length, drop}
 use Rattle.text.proofs.Toward.{Toward, begin, room, put, finish}
 use Rattle.grammar.specs.Normal.{normalised}
-use Rattle.format.specs.Normalise.{ended}
+use Rattle.lines.specs.Lines.{ended}
 use Rattle.format.proofs.NormaliseLaws.{normalised-end, block-turn, block-in, line-in, line-turn, last-turn, line-le}
 use borrow.Author.Needs.{needs}
 use Rattle.format.proofs.normalise.put_chunks.Statement.{statement}

@@ -1,13 +1,13 @@
--- `format::line::line_len` meets its contract. Assumes nothing.
+-- `lines::line::line_len` meets its contract. Assumes nothing.
 use mathlib.Core.Path.{sym, ap, _∙_}
 use Prim.Native.Nat.{ℕ}
 use lib.ListN.{length, take}
 use Rattle.text.specs.Blank.{dropEnd, isAsciiBlank, trimAscii}
 use Rattle.grammar.proofs.LineTurnLaws.{front-index}
-use Rattle.format.proofs.AlongLaws.{index-length}
+use Rattle.lines.proofs.AlongLaws.{index-length}
 use borrow.Author.Needs.{needs}
-use Rattle.format.proofs.line.line_len.Statement.{statement}
-use Rattle.format.proofs.line.line_len.Tie as tie
+use Rattle.lines.proofs.line.line_len.Statement.{statement}
+use Rattle.lines.proofs.line.line_len.Tie as tie
 
 find-requires : tie.Need-find-requires
 find-requires c κs = search needs

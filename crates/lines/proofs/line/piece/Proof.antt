@@ -1,4 +1,4 @@
--- `format::line::piece` meets its contract. Assumes nothing.
+-- `lines::line::piece` meets its contract. Assumes nothing.
 use mathlib.Core.Path.{sym, ap, _∙_}
 use Prim.Native.Nat.{ℕ}
 use lib.ListN.{take}
@@ -6,8 +6,8 @@ use Rattle.text.specs.Blank.{front}
 use Rattle.grammar.specs.Units.{notLf}
 use Rattle.grammar.proofs.LineTurnLaws.{front-index}
 use borrow.Author.Needs.{needs}
-use Rattle.format.proofs.line.piece.Statement.{statement}
-use Rattle.format.proofs.line.piece.Tie as tie
+use Rattle.lines.proofs.line.piece.Statement.{statement}
+use Rattle.lines.proofs.line.piece.Tie as tie
 
 first-requires : tie.Need-first-requires
 first-requires c κs = search needs

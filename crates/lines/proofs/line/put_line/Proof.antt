@@ -1,4 +1,4 @@
--- `format::line::put_line` meets its contract: a line that ends within a piece at once, and a longer one by its pieces. Assumes nothing.
+-- `lines::line::put_line` meets its contract: a line that ends within a piece at once, and a longer one by its pieces. Assumes nothing.
 use mathlib.Core.Path.{_≡_, sym, ap, _∙_}
 use mathlib.Core.List.{List}
 use Prim.Native.Nat.{ℕ}
@@ -7,11 +7,11 @@ use lib.ListN.{length}
 use Rattle.text.specs.Blank.{front, dropEnd, isAsciiBlank, trimAscii}
 use Rattle.text.specs.Fields.{indexOf}
 use Rattle.grammar.specs.Units.{notLf}
-use Rattle.format.specs.Normalise.{ended}
-use Rattle.format.proofs.AlongLaws.{near-size, near-is}
+use Rattle.lines.specs.Lines.{ended}
+use Rattle.lines.proofs.AlongLaws.{near-size, near-is}
 use borrow.Author.Needs.{needs}
-use Rattle.format.proofs.line.put_line.Statement.{statement}
-use Rattle.format.proofs.line.put_line.Tie as tie
+use Rattle.lines.proofs.line.put_line.Statement.{statement}
+use Rattle.lines.proofs.line.put_line.Tie as tie
 
 first-requires : tie.Need-first-requires
 first-requires c κs = search needs

@@ -1,4 +1,4 @@
--- `format::line::put_long` meets its contract: the blanks before the line, its pieces, and LF where something was written. Assumes nothing.
+-- `lines::line::put_long` meets its contract: the blanks before the line, its pieces, and LF where something was written. Assumes nothing.
 use mathlib.Core.Path.{_≡_, sym, ap, _∙_}
 use mathlib.Core.List.{List, [], _∷_}
 use Prim.Native.Nat.{ℕ, _+_, _-_}
@@ -9,13 +9,13 @@ use Rattle.text.specs.Wrote.{Put}
 use Rattle.grammar.specs.Units.{notLf}
 use Rattle.text.proofs.DropLaws.{drop-while-le}
 use Rattle.graphics.specs.Block.{isLineBlank}
-use Rattle.format.proofs.AlongLaws.{started-is, started-size}
-use Rattle.format.proofs.PieceLaws.{front-le}
-use Rattle.format.proofs.FirstLaws.{ended-some}
-use Rattle.format.proofs.NormaliseLaws.{ended-le, put-empty, put-ended-at}
+use Rattle.lines.proofs.AlongLaws.{started-is, started-size}
+use Rattle.lines.proofs.PieceLaws.{front-le}
+use Rattle.lines.proofs.EndedLaws.{ended-some}
+use Rattle.lines.proofs.EndedLaws.{ended-le, put-empty, put-ended-at}
 use borrow.Author.Needs.{needs}
-use Rattle.format.proofs.line.put_long.Statement.{statement}
-use Rattle.format.proofs.line.put_long.Tie as tie
+use Rattle.lines.proofs.line.put_long.Statement.{statement}
+use Rattle.lines.proofs.line.put_long.Tie as tie
 
 -- what stays of the line, as its pieces are told
 kept : (c : tie.After-trim-line-start) → trimAscii (front notLf (c .before .before .before .args .rest .now)) ≡ dropEnd isAsciiBlank (front notLf (c .trim-line-start .result .now))

@@ -20,7 +20,7 @@ use Rattle.text.proofs.Toward.{Toward, begin, put, finish}
 use Rattle.graphics.specs.Block.{isLineBlank}
 use Rattle.grammar.specs.Units.{notLf}
 use Rattle.grammar.proofs.LineTurnLaws.{front-index}
-use Rattle.format.proofs.PieceLaws.{front-le, kept-le, piece-some, piece-rest, piece-none, front-take, front-behind, front-part}
+use Rattle.lines.proofs.PieceLaws.{front-le, kept-le, piece-some, piece-rest, piece-none, front-take, front-behind, front-part}
 
 -- the line of t is written up to done, blanks go on from there to seen, and no LF stands before that
 pub record Along (t out₀ : List ℕ) (at : ℕ) (out : List ℕ) (done seen to : ℕ) : Type 0 where

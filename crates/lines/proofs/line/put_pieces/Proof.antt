@@ -1,4 +1,4 @@
--- `format::line::put_pieces` meets its contract. Invariant: the line is written up to done, and blanks go on to seen. Measure: the bytes left. Assumes nothing.
+-- `lines::line::put_pieces` meets its contract. Invariant: the line is written up to done, and blanks go on to seen. Measure: the bytes left. Assumes nothing.
 use mathlib.Core.Path.{_≡_}
 use mathlib.Core.Logic.{_⊎_, ⊎-elim, inl, inr}
 use mathlib.Core.List.{List}
@@ -8,11 +8,11 @@ use lib.ListN.{length, take, drop}
 use Rattle.text.specs.Blank.{front, dropEnd, isAsciiBlank}
 use Rattle.text.proofs.Toward.{room}
 use Rattle.grammar.specs.Units.{notLf}
-use Rattle.format.proofs.PieceLaws.{front-le}
-use Rattle.format.proofs.AlongLaws.{Along, along-start, kept-in, forth, upto-le, seen-le, splits, along-next, along-end, ended-here}
+use Rattle.lines.proofs.PieceLaws.{front-le}
+use Rattle.lines.proofs.AlongLaws.{Along, along-start, kept-in, forth, upto-le, seen-le, splits, along-next, along-end, ended-here}
 use borrow.Author.Needs.{needs}
-use Rattle.format.proofs.line.put_pieces.Statement.{statement}
-use Rattle.format.proofs.line.put_pieces.Tie as tie
+use Rattle.lines.proofs.line.put_pieces.Statement.{statement}
+use Rattle.lines.proofs.line.put_pieces.Tie as tie
 
 abbrev Inv-loop : tie.InvT-loop
 Inv-loop t out₀ at done₀ seen₀ to₀ out done seen to = Along t out₀ at out done seen to
