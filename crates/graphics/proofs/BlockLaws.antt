@@ -1,7 +1,7 @@
 -- Laws of graphic blocks: one turn of the loop that passes a header field, the parts of a header, and where a block's data lies.
 -- Assumes nothing.
 use mathlib.Core.Path.{_≡_, refl, sym, ap, _∙_}
-use mathlib.Core.Bool.{Bool, true, false, not, _&&_, _||_, and-true}
+use mathlib.Core.Bool.{Bool, true, false, not, _&&_, _||_, and-true, true≢false}
 use mathlib.Core.List.{List, [], _∷_, _++_, append-nil, append-assoc}
 use Prim.Native.Nat.{ℕ, _+_, _-_, _*_, _<_, _≤_}
 use native.Mathlib.Nat.{mul-le-mul}
@@ -10,23 +10,27 @@ use native.Mathlib.Omega.{arith}
 use lib.Dec.{T, eqb, ltb}
 use lib.IntN.{ℤ, pos, negsuc, natAbs}
 use lib.ListN.{length, getD, take, drop, length-take, length-drop, drop-of-length-le}
-use lib.Seq.{drop-cons, drop-drop, take-suc}
+use lib.Seq.{drop-cons, drop-drop, take-suc, take-length}
 use lib.Signed.{mag, ltZ, nonNeg, natAbs-le}
 use mir.Syntax.{w64}
 use mir.Val.{Fits}
-use borrow.Author.Tests.{ltb-true, ltb-false, ne-eqb, not-true}
+use borrow.Author.Tests.{ltb-true, ltb-false, eq-eqb, ne-eqb, not-true, not-false}
 use Rattle.text.specs.Blank.{dropWhile, front}
-use Rattle.text.specs.Fields.{same}
+use Rattle.text.specs.Fields.{indexOf, before, same}
 use Rattle.text.proofs.BoolLaws.{test, and-both}
 use Rattle.text.proofs.DropLaws.{drop-while-le}
-use Rattle.text.proofs.DropSteps.{rest}
 use Rattle.text.proofs.FieldsLaws.{same-length, same-true}
+use Rattle.numbers.specs.Number.{numberSpelled}
+use Rattle.parameters.specs.Params.{numberAt, numberFrom}
+use Rattle.parameters.specs.declared.field_reader.Numbered.{Numbered}
+use Rattle.parameters.proofs.PlaceLaws.{number-value}
 use Rattle.elements.specs.declared.refusal.Refusal.{Refusal}
 use Rattle.elements.specs.declared.refusal.Refusal.the-variants as refusal
 use Rattle.graphics.specs.declared.gw_span.Graphic.the-variants as graphic
 use Rattle.graphics.specs.declared.gw_span.GwNumbers.{GwNumbers}
 use Rattle.graphics.specs.declared.gw_span.GwSpan.{GwSpan}
-use Rattle.graphics.specs.Block.{isLineBlank, opensGw, inField, startsComma, afterHeaderField, fourClosed, payloadOf, gwNumbers, total, measured, headerOf, gwSpan, FieldLen}
+use Rattle.graphics.specs.declared.gw_span.HeaderField.{HeaderField}
+use Rattle.graphics.specs.Block.{isLineBlank, opensGw, inField, closes, afterHeaderField, headerNumber, fourClosed, payloadOf, gwNumbers, total, measured, headerOf, gwSpan, FieldLen, HeaderRead}
 
 -- the loop that passes the first header field
 
@@ -61,20 +65,59 @@ module _ (t : List ℕ) (i : ℕ) (w : Within t i) where
         fits = w .fits;
       }
 
--- what ends the field, and what follows it, at its length r
+-- the header field at a place
 
-module _ (t : List ℕ) (r : ℕ) where
-  pub comma-here : r < length t → eqb (getD t r 0) 44 ≡ startsComma (drop r t)
-  comma-here h = rw (drop-cons t r 0)
+-- it holds no comma
+index-front : (u : List ℕ) → indexOf 44 (front inField u) ≡ length (front inField u)
+index-front [] = refl
+index-front (b ∷ u) =
+    test (inField b)
+    (λ e. let k = and-both (not (eqb b 44)) (not (eqb b 10)) e in simp (not-true (eqb b 44) (k .0), not-true (eqb b 10) (k .1), index-front u))
+    (λ e. simp e)
 
-  pub comma-none : length t ≤ r → false ≡ startsComma (drop r t)
-  comma-none h = rw (drop-of-length-le t)
+module _ (t : List ℕ) (at n : ℕ) (f : FieldLen (drop at t) n) where
+  ends : dropWhile inField (drop at t) ≡ drop (at + n) t
+  ends = sym (f .left) ∙ drop-drop n at t
 
-  pub after-field-here : take (length t - (r + 1)) (drop (r + 1) t) ≡ drop 1 (drop r t)
-  after-field-here = rest t (r + 1) ∙ sym (drop-drop 1 r t)
+  -- a comma ends it
+  read-comma : (v : ℤ) → at + n < length t → getD t (at + n) 0 ≡ 44 → v ≡ headerNumber (drop at t) → HeaderRead t at (record { closed = true; value = v; next = at + n + 1 })
+  unfolding closes afterHeaderField
+  read-comma v h e k =
+      record {
+        is = rw (ends, drop-cons t (at + n) 0) (simp (eq-eqb (getD t (at + n) 0) 44 e));
+        number = λ _. k;
+        behind = λ _. rw ends (drop-drop 1 (at + n) t);
+        fits = omega arith;
+      }
 
-  pub after-field-none : length t ≤ r → take (length t - r) (drop r t) ≡ drop 1 (drop r t)
-  after-field-none h = rest t r ∙ rw (drop-of-length-le t)
+  pub read-empty : at + n < length t → getD t (at + n) 0 ≡ 44 → n ≡ 0 → HeaderRead t at (record { closed = true; value = pos 0; next = at + n + 1 })
+  unfolding headerNumber numberSpelled
+  read-empty h e z = read-comma (pos 0) h e (rw (← f .is, z))
+
+  pub read-number : {r : Numbered} → at + n < length t → getD t (at + n) 0 ≡ 44 → r ≡ numberFrom (pos 0) (take (at + n - at) (drop at t)) 0 → HeaderRead t at (record { closed = true; value = r .value; next = at + n + 1 })
+  unfolding headerNumber numberAt before
+  read-number {r} h e k =
+      let m : at + n - at ≡ n = omega arith in
+      read-comma (r .value) h e
+      (number-value (pos 0) (take n (drop at t)) 0 refl (rw m at k) ∙ rw (f .is, index-front (drop at t), take-length (front inField (drop at t))))
+
+  -- no comma ends it: it has no number
+  unclosed : at ≤ length t → closes (drop at t) ≡ false → HeaderRead t at (record { closed = false; value = pos 0; next = at + n })
+  unclosed h e =
+      record {
+        is = sym e;
+        number = λ c. absurd (true≢false (sym c));
+        behind = λ c. absurd (true≢false (sym c));
+        fits = omega (arith, f .fits, length-drop at t);
+      }
+
+  pub read-other : at + n < length t → (getD t (at + n) 0 ≡ 44 → ⊥) → HeaderRead t at (record { closed = false; value = pos 0; next = at + n })
+  unfolding closes
+  read-other h e = unclosed (omega arith) (rw (ends, drop-cons t (at + n) 0) (simp (ne-eqb (getD t (at + n) 0) 44 e)))
+
+  pub read-end : at ≤ length t → length t ≤ at + n → HeaderRead t at (record { closed = false; value = pos 0; next = at + n })
+  unfolding closes
+  read-end h e = unclosed h (rw (ends, drop-of-length-le t))
 
 -- the first two bytes of a text are a and b
 pub two-none : (t : List ℕ) (a b : ℕ) → length t < 2 → false ≡ same (take 2 t) (a ∷ b ∷ [])
@@ -124,8 +167,8 @@ payload-after t =
     let u = afterHeaderField t in let v = afterHeaderField u in let w = afterHeaderField v in
     omega (arith, after-le t, after-le u, after-le v, after-le w)
 
-pub payload-le : (s : List ℕ) → length (payloadOf (headerOf s)) ≤ length s
-payload-le s = omega (arith, payload-after (headerOf s), length-drop 2 (dropWhile isLineBlank s), drop-while-le isLineBlank s)
+pub header-le : (s : List ℕ) → length (headerOf s) ≤ length s
+header-le s = omega (arith, length-drop 2 (dropWhile isLineBlank s), drop-while-le isLineBlank s)
 
 -- behind `GW` it is shorter still
 payload-lt : (s : List ℕ) → opensGw s ≡ true → length (payloadOf (headerOf s)) < length s
@@ -134,6 +177,53 @@ payload-lt s h =
     let t = dropWhile isLineBlank s in
     let e = ap length (same-true (take 2 t) (71 ∷ 87 ∷ []) h) in
     omega (arith, payload-after (headerOf s), length-drop 2 t, length-take 2 t, drop-while-le isLineBlank s)
+
+-- the four fields of a header t, each at the place behind the one before
+
+-- a comma closes the field at a place
+pub record Closed (t : List ℕ) (at : ℕ) (x : HeaderField) : Type 0 where
+  pub is : closes (drop at t) ≡ true
+  pub number : headerNumber (drop at t) ≡ x .value
+  pub behind : afterHeaderField (drop at t) ≡ drop (x .next) t
+
+module _ {t : List ℕ} {at : ℕ} {x : HeaderField} (h : HeaderRead t at x) where
+  pub closed : not (x .closed) ≡ false → Closed t at x
+  closed c = let k = not-false (x .closed) c in record { is = sym (h .is) ∙ k; number = sym (h .number k); behind = h .behind k }
+
+  not-closed : not (x .closed) ≡ true → closes (drop at t) ≡ false
+  not-closed c = sym (h .is) ∙ not-true (x .closed) c
+
+-- the first that is not closed
+module _ {t : List ℕ} where
+  pub first-open : {x : HeaderField} → HeaderRead t 0 x → not (x .closed) ≡ true → fourClosed t ≡ false
+  unfolding fourClosed
+  first-open h c = simp (not-closed h c)
+
+  module _ {x : HeaderField} (hx : Closed t 0 x) where
+    pub second-open : {y : HeaderField} → HeaderRead t (x .next) y → not (y .closed) ≡ true → fourClosed t ≡ false
+    unfolding fourClosed
+    second-open h c = simp (hx .is, hx .behind, not-closed h c)
+
+    module _ {y : HeaderField} (hy : Closed t (x .next) y) where
+      pub third-open : {w : HeaderField} → HeaderRead t (y .next) w → not (w .closed) ≡ true → fourClosed t ≡ false
+      unfolding fourClosed
+      third-open h c = simp (hx .is, hx .behind, hy .is, hy .behind, not-closed h c)
+
+      pub fourth-open : {w l : HeaderField} → Closed t (y .next) w → HeaderRead t (w .next) l → not (l .closed) ≡ true → fourClosed t ≡ false
+      unfolding fourClosed
+      fourth-open hw h c = simp (hx .is, hx .behind, hy .is, hy .behind, hw .is, hw .behind, not-closed h c)
+
+-- it refuses the graphic; behind four that are closed the sizes decide
+module _ (s t : List ℕ) (e : t ≡ headerOf s) (o : opensGw s ≡ true) where
+  pub not-four : fourClosed t ≡ false → graphic.Refused refusal.GraphicFields ≡ gwSpan s
+  unfolding gwSpan
+  not-four f = simp (o, ← e, f)
+
+  pub four : {x y w l : HeaderField} → Closed t 0 x → Closed t (x .next) y → Closed t (y .next) w → Closed t (w .next) l
+      → measured (record { at = record { x = x .value; y = y .value }; «width_bytes» = w .value; lines = l .value }) (length s - (length t - l .next)) (length t - l .next) ≡ gwSpan s
+  unfolding gwSpan fourClosed gwNumbers payloadOf
+  four hx hy hw hl =
+      simp (o, ← e, hx .is, hx .number, hx .behind, hy .is, hy .number, hy .behind, hw .is, hw .number, hw .behind, hl .is, hl .number, hl .behind, length-drop)
 
 -- where the data of a graphic lies
 

@@ -2,7 +2,7 @@
 -- then width × lines bytes, neither negative".
 use mathlib.Core.Path.{_≡_}
 use Prim.Native.Nat.{ℕ, _+_, _-_, _*_, _≤_}
-use mathlib.Core.Bool.{Bool, false, cond, not, _&&_, _||_}
+use mathlib.Core.Bool.{Bool, true, false, cond, not, _&&_, _||_}
 use mathlib.Core.List.{List, [], _∷_}
 use lib.Dec.{eqb, ltb}
 use lib.IntN.{ℤ, pos, natAbs}
@@ -21,6 +21,7 @@ use Rattle.graphics.specs.declared.gw_span.Graphic.{Graphic}
 use Rattle.graphics.specs.declared.gw_span.Graphic.the-variants as graphic
 use Rattle.graphics.specs.declared.gw_span.GwNumbers.{GwNumbers}
 use Rattle.graphics.specs.declared.gw_span.GwSpan.{GwSpan}
+use Rattle.graphics.specs.declared.gw_span.HeaderField.{HeaderField}
 use Rattle.parameters.specs.declared.position.Placed.{Placed}
 use Rattle.parameters.specs.declared.position.Placed.the-variants as placing
 use Rattle.parameters.specs.Position.{placed}
@@ -122,3 +123,10 @@ pub record FieldLen (t : List ℕ) (r : ℕ) : Type 0 where
   pub is : take r t ≡ front inField t
   pub left : drop r t ≡ dropWhile inField t
   pub fits : r ≤ length t
+
+-- what `header_from` answers of the field at a place of t: whether a comma closes it; where one does, its number and the place of what follows
+pub record HeaderRead (t : List ℕ) (at : ℕ) (r : HeaderField) : Type 0 where
+  pub is : r .closed ≡ closes (drop at t)
+  pub number : r .closed ≡ true → r .value ≡ headerNumber (drop at t)
+  pub behind : r .closed ≡ true → afterHeaderField (drop at t) ≡ drop (r .next) t
+  pub fits : r .next ≤ length t

@@ -1,16 +1,16 @@
-// `GW`: graphic blocks. The header is scanned no further than its fourth comma or an LF; the payload is not looked at.
+// `GW`: graphic blocks. The header is read field by field, no further than its fourth comma or an LF; the payload is not looked at.
 ghost use mathlib.Core.Path.{_≡_};
 ghost use mathlib.Core.Bool.{true};
 ghost use Prim.Native.Nat.{_+_, _<_, _≤_};
 ghost use lib.ListN.{length};
 ghost use Rattle.text.specs.Blank.{dropWhile};
-ghost use Rattle.graphics.specs.Block.{isLineBlank, opensGw, inField, closes, headerNumber, afterHeaderField, fourClosed, payloadOf, gwNumbers, measured, gwSpan, graphicAt, blockReading, laterBlock, FieldLen};
+ghost use Rattle.graphics.specs.Block.{isLineBlank, opensGw, inField, measured, gwSpan, graphicAt, blockReading, laterBlock, FieldLen, HeaderRead};
 use elements::DataSpan;
 use elements::GraphicField;
 use elements::LabelElement;
 use elements::LabelPosition;
 use elements::refusal::Refusal;
-use numbers::number::number_or;
+use parameters::params::number_from;
 use parameters::params::tail_two;
 use parameters::position::Placed;
 use parameters::position::place;
@@ -76,80 +76,49 @@ pub fn header_field_len(t: &[u8]) -> usize
     i
 }
 
-// A comma closes the first header field.
-pub fn closes_field(t: &[u8]) -> bool
-    ensures { λ r. ⌜ r ≡ closes (now (t .entry)) ⌝ }
-{
-    let n = header_field_len(t);
-    if n < t.len() { t[n] == b',' } else { false }
+// A header field: whether a comma closes it, before an LF or the end. Where one does: its number, or 0, and the place behind the comma.
+pub struct HeaderField {
+    pub closed: bool,
+    pub value: i32,
+    pub next: usize,
 }
 
-// What follows the byte that ends the first header field.
-pub fn after_header_field(t: &[u8]) -> &[u8]
-    ensures { λ r. ⌜ now r ≡ afterHeaderField (now (t .entry)) ⌝ }
+// The header field at a place. Empty fields, which hostile files are full of, have no number to look for.
+fn header_from(t: &[u8], at: usize) -> HeaderField
+    requires { ⌜ at ≤ length (now t) ⌝ }
+    ensures { λ r. ⌜ HeaderRead (now (t .entry)) at r ⌝ }
 {
-    let n = header_field_len(t);
-    if n < t.len() {
-        let m = n + 1;
-        return &t[m..];
+    let n = header_field_len(&t[at..]);
+    let end = at + n;
+    if end < t.len() {
+        if t[end] == b',' {
+            if n == 0 {
+                return HeaderField {
+                    closed: true,
+                    value: 0,
+                    next: end + 1,
+                };
+            }
+            let v = number_from(&t[at..end], 0, 0);
+            return HeaderField {
+                closed: true,
+                value: v.value,
+                next: end + 1,
+            };
+        }
     }
-    &t[n..]
-}
-
-// The number in the first header field, or 0.
-pub fn header_number(t: &[u8]) -> i32
-    ensures { λ r. ⌜ r ≡ headerNumber (now (t .entry)) ⌝ }
-{
-    let n = header_field_len(t);
-    number_or(&t[..n], 0)
-}
-
-// Four fields, each closed by a comma. Nothing behind the first that is not is looked at.
-pub fn four_closed(t: &[u8]) -> bool
-    ensures { λ r. ⌜ r ≡ fourClosed (now (t .entry)) ⌝ }
-{
-    if !closes_field(t) {
-        return false;
+    HeaderField {
+        closed: false,
+        value: 0,
+        next: end,
     }
-    let u = after_header_field(t);
-    if !closes_field(u) {
-        return false;
-    }
-    let v = after_header_field(u);
-    if !closes_field(v) {
-        return false;
-    }
-    closes_field(after_header_field(v))
 }
 
-// What follows the fourth field.
-pub fn payload(t: &[u8]) -> &[u8]
-    ensures { λ r. ⌜ now r ≡ payloadOf (now (t .entry)) ⌝ }
-{
-    after_header_field(after_header_field(after_header_field(after_header_field(t))))
-}
-
+// x, y, width in bytes, lines.
 pub struct GwNumbers {
     pub at: LabelPosition,
     pub width_bytes: i32,
     pub lines: i32,
-}
-
-// x, y, width in bytes, lines.
-pub fn gw_numbers(t: &[u8]) -> GwNumbers
-    ensures { λ r. ⌜ r ≡ gwNumbers (now (t .entry)) ⌝ }
-{
-    let x = header_number(t);
-    let u = after_header_field(t);
-    let y = header_number(u);
-    let v = after_header_field(u);
-    let width_bytes = header_number(v);
-    let lines = header_number(after_header_field(v));
-    GwNumbers {
-        at: LabelPosition { x, y },
-        width_bytes,
-        lines,
-    }
 }
 
 pub struct GwSpan {
@@ -198,11 +167,35 @@ fn opened_gw(rest: &[u8]) -> Graphic
     ensures { λ r. ⌜ r ≡ gwSpan (now (rest .entry)) ⌝ }
 {
     let t = tail_two(trim_line_start(rest));
-    if !four_closed(t) {
+    let x = header_from(t, 0);
+    if !x.closed {
         return Graphic::Refused(Refusal::GraphicFields);
     }
-    let p = payload(t);
-    measure(gw_numbers(t), rest.len() - p.len(), p.len())
+    let y = header_from(t, x.next);
+    if !y.closed {
+        return Graphic::Refused(Refusal::GraphicFields);
+    }
+    let w = header_from(t, y.next);
+    if !w.closed {
+        return Graphic::Refused(Refusal::GraphicFields);
+    }
+    let l = header_from(t, w.next);
+    if !l.closed {
+        return Graphic::Refused(Refusal::GraphicFields);
+    }
+    let left = t.len() - l.next;
+    measure(
+        GwNumbers {
+            at: LabelPosition {
+                x: x.value,
+                y: y.value,
+            },
+            width_bytes: w.value,
+            lines: l.value,
+        },
+        rest.len() - left,
+        left,
+    )
 }
 
 // The graphic that stands first in rest, which goes to the end of input; places are counted from rest's first byte. Small, so that it is inlined: it is

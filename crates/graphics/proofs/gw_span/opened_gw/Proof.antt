@@ -1,11 +1,12 @@
--- `graphics::gw_span::opened_gw` meets its contract: the four commas, then the sizes decide. `payload-le` bounds the payload's place.
+-- `graphics::gw_span::opened_gw` meets its contract: the first field that no comma closes, then the sizes decide. `header-le` bounds the payload's place.
 -- Assumes nothing.
-use mathlib.Core.Path.{_≡_, sym, ap, _∙_}
-use lib.ListN.{drop}
-use borrow.Author.Tests.{not-true, not-false}
+use mathlib.Core.Path.{_≡_, ap, _∙_}
+use native.Mathlib.Omega.{arith}
+use lib.ListN.{length, drop}
 use borrow.Author.Needs.{needs}
-use Rattle.graphics.specs.Block.{fourClosed, payloadOf, headerOf, gwSpan}
-use Rattle.graphics.proofs.BlockLaws.{payload-le}
+use Rattle.numbers.proofs.IntLaws.{back32}
+use Rattle.graphics.specs.Block.{headerOf}
+use Rattle.graphics.proofs.BlockLaws.{header-le, closed, first-open, second-open, third-open, fourth-open, not-four, four}
 use Rattle.graphics.proofs.gw_span.opened_gw.Statement.{statement}
 use Rattle.graphics.proofs.gw_span.opened_gw.Tie as tie
 
@@ -13,43 +14,90 @@ use Rattle.graphics.proofs.gw_span.opened_gw.Tie as tie
 header : (d : tie.After-tail-two) → d .tail-two .result .now ≡ headerOf (d .before .before .before .args .rest .now)
 header d = d .tail-two .ensures ∙ ap (drop 2) (d .before .trim-line-start .ensures)
 
-closed : (d : tie.After-four-closed) → d .four-closed .result ≡ fourClosed (headerOf (d .before .before .before .before .args .rest .now))
-closed d = d .four-closed .ensures ∙ ap fourClosed (header (d .before))
-
-left : (d : tie.After-payload) → d .payload .result .now ≡ payloadOf (headerOf (d .before .before .before .before .before .before .args .rest .now))
-left d = d .payload .ensures ∙ ap payloadOf (header (d .before .before .before))
-
 trim-line-start-requires : tie.Need-trim-line-start-requires
 trim-line-start-requires c κs = search needs
 
 tail-two-requires : tie.Need-tail-two-requires
 tail-two-requires c κs = search needs
 
-four-closed-requires : tie.Need-four-closed-requires
-four-closed-requires c κs = search needs
+header-from-requires : tie.Need-header-from-requires
+header-from-requires c κs = search needs
 
 returns : tie.Need-returns
-unfolding gwSpan
-returns c = let f = c .before in simp (f .before .before .before .before .pre, sym (closed f) ∙ not-true (f .four-closed .result) (c .if1 .taken))
+returns c =
+    let x = c .before .before in
+    not-four _ _ (header (x .before)) (x .before .before .before .before .pre)
+    (first-open (x .header-from .ensures) (c .if1 .taken))
 
-payload-requires : tie.Need-payload-requires
-payload-requires c κs = search needs
-
-gw-numbers-requires : tie.Need-gw-numbers-requires
-gw-numbers-requires c κs = search needs
-
-sub-measure : tie.Need-sub-measure
-sub-measure c = rw (left (c .before)) (payload-le (c .before .before .before .before .before .before .before .args .rest .now))
-
-measure-requires : tie.Need-measure-requires
-measure-requires c κs = search needs
+header-from-requires-2 : tie.Need-header-from-requires-2
+header-from-requires-2 c κs = search needs
 
 returns-2 : tie.Need-returns-2
-unfolding gwSpan
 returns-2 c =
-    let p = c .before .before in
-    let f = p .before .before in
-    simp (c .measure .ensures, c .before .gw-numbers .ensures, left p, header (f .before), f .before .before .before .before .pre, sym (closed f) ∙ not-false (f .four-closed .result) (p .before .if1 .left))
+    let y = c .before .before in
+    let x = y .before .before .before in
+    not-four _ _ (header (x .before)) (x .before .before .before .before .pre)
+    (second-open
+    (closed (x .header-from .ensures) (y .before .if1 .left))
+    (y .header-from2 .ensures) (c .if2 .taken))
+
+header-from-requires-3 : tie.Need-header-from-requires-3
+header-from-requires-3 c κs = search needs
+
+returns-3 : tie.Need-returns-3
+returns-3 c =
+    let w = c .before .before in
+    let y = w .before .before .before in
+    let x = y .before .before .before in
+    not-four _ _ (header (x .before)) (x .before .before .before .before .pre)
+    (third-open
+    (closed (x .header-from .ensures) (y .before .if1 .left))
+    (closed (y .header-from2 .ensures) (w .before .if2 .left))
+    (w .header-from3 .ensures) (c .if3 .taken))
+
+header-from-requires-4 : tie.Need-header-from-requires-4
+header-from-requires-4 c κs = search needs
+
+returns-4 : tie.Need-returns-4
+returns-4 c =
+    let l = c .before .before in
+    let w = l .before .before .before in
+    let y = w .before .before .before in
+    let x = y .before .before .before in
+    not-four _ _ (header (x .before)) (x .before .before .before .before .pre)
+    (fourth-open
+    (closed (x .header-from .ensures) (y .before .if1 .left))
+    (closed (y .header-from2 .ensures) (w .before .if2 .left))
+    (closed (w .header-from3 .ensures) (l .before .if3 .left))
+    (l .header-from4 .ensures) (c .if4 .taken))
+
+sub-left : tie.Need-sub-left
+sub-left c = search needs
+
+sub-measure : tie.Need-sub-measure
+sub-measure c =
+    let t = c .before .before .before .before .before .before .before .before .before .before .before .before .before .before .before .before .before in
+    omega (arith, ap length (header t), header-le (t .before .before .before .args .rest .now))
+
+measure-requires : tie.Need-measure-requires
+measure-requires c κs =
+    omega (arith, sub-measure c, c .before .before .before .before .before .before .before .before .before .before .before .before .before .before .before .before .before .before .before .before .good)
+
+returns-5 : tie.Need-returns-5
+returns-5 c =
+    let v = c .before in
+    let e = v .before .before .before .before .before in
+    let l = e .before .before in
+    let w = l .before .before .before in
+    let y = w .before .before .before in
+    let x = y .before .before .before in
+    c .measure .ensures
+    ∙ rw (back32 (x .header-from .result .value) (v .before .before .before .struct-told .given .1 .0 .1), back32 (y .header-from2 .result .value) (v .before .before .struct-told2 .given .1 .0 .1), back32 (w .header-from3 .result .value) (v .before .struct-told3 .given .1 .0 .1), back32 (l .header-from4 .result .value) (v .struct-told4 .given .1 .0 .1))
+    (four _ _ (header (x .before)) (x .before .before .before .before .pre)
+    (closed (x .header-from .ensures) (y .before .if1 .left))
+    (closed (y .header-from2 .ensures) (w .before .if2 .left))
+    (closed (w .header-from3 .ensures) (l .before .if3 .left))
+    (closed (l .header-from4 .ensures) (e .if4 .left)))
 
 pub opened-gw-spec : {M : Type 1} → statement M
 opened-gw-spec =
@@ -57,10 +105,15 @@ opened-gw-spec =
     (tie.spec
     trim-line-start-requires
     tail-two-requires
-    four-closed-requires
+    header-from-requires
     returns
-    payload-requires
-    gw-numbers-requires
+    header-from-requires-2
+    returns-2
+    header-from-requires-3
+    returns-3
+    header-from-requires-4
+    returns-4
+    sub-left
     sub-measure
     measure-requires
-    returns-2)
+    returns-5)
