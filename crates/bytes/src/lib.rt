@@ -4,3 +4,4 @@ pub mod fields;
 pub mod put;
 pub mod scan;
 pub mod utf8;
+pub mod word;

@@ -2,7 +2,8 @@
 ghost use Prim.Native.Nat.{_+_, _≤_};
 ghost use lib.ListN.{length};
 ghost use Rattle.text.specs.Fields.{Found};
-ghost use Rattle.text.specs.Scan.{Passed, First};
+ghost use Rattle.text.specs.Scan.{Passed, First, Near};
+use crate::word::marks;
 
 // The first b among the sixty-four bytes from `from` on, counted from there, or 64: a minimum over all of them.
 fn window(a: &[u8], from: usize, b: u8) -> u8
@@ -55,6 +56,24 @@ fn by_one(a: &[u8], from: usize, b: u8) -> usize
         i += 1;
     }
     i
+}
+
+// The first b among the first sixty-four bytes, eight at a time, or 64: what stands near is known sooner than by a window. 64 too where there are fewer bytes.
+pub fn near(a: &[u8], b: u8) -> usize
+    ensures { λ r. ⌜ Near (now (a .entry)) b r ⌝ }
+{
+    if a.len() < 64 {
+        return 64;
+    }
+    let mut i = 0;
+    while i <= 56 {
+        let m = marks(a, i, b);
+        if m != 0 {
+            return i + ((u64::trailing_zeros(m) / 8) as usize);
+        }
+        i += 8;
+    }
+    64
 }
 
 // The first b, by places.

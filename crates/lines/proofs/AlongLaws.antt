@@ -20,6 +20,7 @@ use Rattle.text.proofs.Toward.{Toward, begin, put, finish}
 use Rattle.graphics.specs.Block.{isLineBlank}
 use Rattle.grammar.specs.Units.{notLf}
 use Rattle.grammar.proofs.LineTurnLaws.{front-index}
+use Rattle.lines.proofs.EndedLaws.{nothing}
 use Rattle.lines.proofs.PieceLaws.{front-le, kept-le, piece-some, piece-rest, piece-none, front-take, front-behind, front-part}
 
 -- the line of t is written up to done, blanks go on from there to seen, and no LF stands before that
@@ -124,11 +125,7 @@ module _ {t out₀ : List ℕ} {at : ℕ} {out : List ℕ} {done seen to : ℕ} 
 pub along-end : {t out₀ : List ℕ} {at : ℕ} {out : List ℕ} {done seen to : ℕ} → Along t out₀ at out done seen to → length (front notLf t) ≤ seen → Put out out₀ at (dropEnd isAsciiBlank (front notLf t)) to
 along-end {t} {out₀} {at} {out} {done} {seen} s h =
     let all : take (seen - done) (drop done (front notLf t)) ≡ drop done (front notLf t) = take-all (seen - done) (drop done (front notLf t)) (rw length-drop (omega (arith, h))) in
-    finish (s .toward) (none (dropEnd isAsciiBlank (drop done (front notLf t))) (sym (ap (λ (l : List ℕ). length (dropEnd isAsciiBlank l)) all) ∙ s .blank))
-  where
-    none : (l : List ℕ) → length l ≡ 0 → l ≡ []
-    none [] e = refl
-    none (b ∷ l) e = absurd (omega (arith, e))
+    finish (s .toward) (nothing (dropEnd isAsciiBlank (drop done (front notLf t))) (sym (ap (λ (l : List ℕ). length (dropEnd isAsciiBlank l)) all) ∙ s .blank))
 
 -- ---- the blanks before a line
 lf-no-blank : (b : ℕ) → eqb b 10 ≡ true → isLineBlank b ≡ false
@@ -148,17 +145,9 @@ started-size (b ∷ s) =
     (λ e. simp (e, lf-no-blank b e) (omega arith))
     (λ e. test (isLineBlank b) (λ k. simp (e, k) (omega (arith, started-size s, drop-while-le isLineBlank s))) (λ k. simp (e, k) (omega arith)))
 
--- ---- a line that ends within a piece
+-- ---- a line's length
 pub index-length : (s : List ℕ) → length (front notLf s) ≡ indexOf 10 s
 index-length s = ap length (front-index s) ∙ length-take-le (indexOf 10 s) s (index-le 10 s)
 
-module _ (s : List ℕ) (n : ℕ) (is : n ≡ indexOf 10 (take 4096 s)) (near : (eqb n 4096 && ltb n (length s)) ≡ false) where
-  pub near-size : n ≡ length (front notLf s)
-  near-size =
-      let m : n ≡ min 4096 (length (front notLf s)) = is ∙ sym (index-length (take 4096 s)) ∙ ap length (front-take notLf s 4096) ∙ length-take 4096 (front notLf s) in
-      test (eqb n 4096)
-      (λ e. let k : ltb n (length s) ≡ false = simp e at near in omega (arith, m, ltb-false n (length s) k, front-le notLf s))
-      (λ e. omega (arith, m, eqb-false n 4096 e))
-
-  pub near-is : take n s ≡ front notLf s
-  near-is = ap (λ (k : ℕ). take k s) (near-size ∙ index-length s) ∙ sym (front-index s)
+pub line-is : (s : List ℕ) {n : ℕ} → n ≡ length (front notLf s) → take n s ≡ front notLf s
+line-is s e = ap (λ (k : ℕ). take k s) (e ∙ index-length s) ∙ sym (front-index s)

@@ -13,9 +13,12 @@ pub ended-some : (t : List ℕ) → 0 < length t → ended t ≡ t ++ 10 ∷ []
 ended-some [] h = absurd (omega arith)
 ended-some (b ∷ t) h = refl
 
+pub nothing : (t : List ℕ) → length t ≡ 0 → t ≡ []
+nothing [] h = refl
+nothing (b ∷ t) h = absurd (omega arith)
+
 pub ended-none : (t : List ℕ) → length t ≡ 0 → ended t ≡ []
-ended-none [] h = refl
-ended-none (b ∷ t) h = absurd (omega arith)
+ended-none t h = ap ended (nothing t h)
 
 -- ---- a part and the LF behind it
 pub put-none : (part : List ℕ) → length part ≡ 0 → (l : List ℕ) (at : ℕ) → Put l l at (ended part) at
@@ -40,11 +43,7 @@ module _ {m l : List ℕ} {at r : ℕ} (part : List ℕ) (p : Put m l at part r)
   pub put-empty : r ≤ at → Put m l at (ended part) at
   put-empty h =
       let e = ended-none part (omega (arith, h, p .next)) in
-      record { wrote = wrote-as (e ∙ sym (none part (omega (arith, h, p .next)))) (p .wrote); next = omega (arith, ap length e) }
-    where
-      none : (x : List ℕ) → length x ≡ 0 → x ≡ []
-      none [] h = refl
-      none (b ∷ x) h = absurd (omega (arith, h))
+      record { wrote = wrote-as (e ∙ sym (nothing part (omega (arith, h, p .next)))) (p .wrote); next = omega (arith, ap length e) }
 
   pub put-ended-at : at < r → Put (set m r 10) l at (ended part) (r + 1)
   put-ended-at h =

@@ -9,6 +9,7 @@ ghost use Rattle.grammar.specs.Units.{notLf};
 ghost use Rattle.lines.specs.Lines.{ended, Keeps, PutsLine, PutsPieces};
 use bytes::put::put_bytes;
 use bytes::scan::find;
+use bytes::scan::near;
 use graphics::gw_span::trim_line_start;
 use numbers::blank::first;
 use numbers::blank::trim_ascii_end;
@@ -103,13 +104,13 @@ fn put_long(rest: &[u8], out: &mut [u8], at: usize) -> Line
     Line { size, to: end + 1 }
 }
 
-// The line that stands first in rest. Most end within a piece.
+// The line that stands first in rest. Most end near.
 pub fn put_line(rest: &[u8], out: &mut [u8], at: usize) -> Line
     requires { ⌜ at + length (ended (trimAscii (front notLf (now rest)))) ≤ length (now out) ⌝ }
     ensures { λ r. ⌜ PutsLine (now (out .exit)) (now (out .entry)) (now (rest .entry)) at r ⌝ }
 {
-    let n = find(first(rest, PIECE), 10);
-    if (n == PIECE) & (n < rest.len()) {
+    let n = near(rest, 10);
+    if 64 <= n {
         return put_long(rest, out, at);
     }
     let to = put_ended(trim_ascii_end(trim_ascii_start(first(rest, n))), out, at);

@@ -15,3 +15,4 @@ pub mod ClassLaws
 pub mod BlankSteps
 pub mod Utf8Steps
 pub mod Cases
+pub mod WordLaws

@@ -10,3 +10,5 @@ pub mod Fields
 pub mod Scan
 -- bytes stored in a row, and the place after them
 pub mod Wrote
+-- bytes side by side in one number
+pub mod Word

@@ -20,3 +20,8 @@ pub record First (a : List ℕ) (b lo hi r : ℕ) : Type 0 where
   pub high : r ≤ hi
   pub before : None a b lo r
   pub found : r < hi → getD a r 0 ≡ b
+
+-- below 64 r is the first b of a
+pub record Near (a : List ℕ) (b r : ℕ) : Type 0 where
+  pub low : r ≤ 64
+  pub found : r < 64 → First a b 0 (length a) r

@@ -1,23 +1,20 @@
--- `lines::line::put_line` meets its contract: a line that ends within a piece at once, and a longer one by its pieces. Assumes nothing.
+-- `lines::line::put_line` meets its contract: a line that ends near at once, and any other by its pieces. Assumes nothing.
 use mathlib.Core.Path.{_≡_, sym, ap, _∙_}
 use mathlib.Core.List.{List}
 use Prim.Native.Nat.{ℕ}
 use native.Mathlib.Omega.{arith}
 use lib.ListN.{length}
 use Rattle.text.specs.Blank.{front, dropEnd, isAsciiBlank, trimAscii}
-use Rattle.text.specs.Fields.{indexOf}
+use Rattle.text.proofs.ScanLaws.{first-found}
 use Rattle.grammar.specs.Units.{notLf}
 use Rattle.lines.specs.Lines.{ended}
-use Rattle.lines.proofs.AlongLaws.{near-size, near-is}
+use Rattle.lines.proofs.AlongLaws.{index-length, line-is}
 use borrow.Author.Needs.{needs}
 use Rattle.lines.proofs.line.put_line.Statement.{statement}
 use Rattle.lines.proofs.line.put_line.Tie as tie
 
-first-requires : tie.Need-first-requires
-first-requires c κs = search needs
-
-find-requires : tie.Need-find-requires
-find-requires c κs = search needs
+near-requires : tie.Need-near-requires
+near-requires c κs = search needs
 
 put-long-requires : tie.Need-put-long-requires
 put-long-requires c κs = search needs
@@ -28,8 +25,8 @@ same-length c = search needs
 returns : tie.Need-returns
 returns c = search needs
 
-first-requires-2 : tie.Need-first-requires-2
-first-requires-2 c κs = search needs
+first-requires : tie.Need-first-requires
+first-requires c κs = search needs
 
 trim-ascii-start-requires : tie.Need-trim-ascii-start-requires
 trim-ascii-start-requires c κs = search needs
@@ -37,20 +34,21 @@ trim-ascii-start-requires c κs = search needs
 trim-ascii-end-requires : tie.Need-trim-ascii-end-requires
 trim-ascii-end-requires c κs = search needs
 
+size : (c : tie.Else1) → c .before .near .result ≡ length (front notLf (c .before .before .before .before .args .rest .now))
+size c = first-found (c .before .near .ensures .found (omega arith)) .is ∙ sym (index-length (c .before .before .before .before .args .rest .now))
+
 -- what stays of the line
-kept : (c : tie.After-trim-ascii-end) → c .trim-ascii-end .result .now ≡ trimAscii (front notLf (c .before .before .before .before .before .before .before .before .args .rest .now))
+kept : (c : tie.After-trim-ascii-end) → c .trim-ascii-end .result .now ≡ trimAscii (front notLf (c .before .before .before .before .before .before .before .args .rest .now))
 kept c =
     let f = c .before .before in
-    let n = f .before .before in
-    let s = n .before .before .before .before .args .rest .now in
     c .trim-ascii-end .ensures
     ∙ ap (dropEnd isAsciiBlank) (c .before .trim-ascii-start .ensures)
-    ∙ ap trimAscii (f .first2 .ensures ∙ near-is s (n .find .result) (n .find .ensures .is ∙ ap (indexOf 10) (n .before .first .ensures)) (f .before .if1 .left))
+    ∙ ap trimAscii (f .first .ensures ∙ line-is (f .before .before .before .before .before .args .rest .now) (size (f .before)))
 
 put-ended-requires : tie.Need-put-ended-requires
 put-ended-requires c κs =
     let t = c .before in
-    omega (arith, t .before .before .before .before .before .before .before .before .pre, ap (λ (l : List ℕ). length (ended l)) (kept t))
+    omega (arith, t .before .before .before .before .before .before .before .pre, ap (λ (l : List ℕ). length (ended l)) (kept t))
 
 same-length-2 : tie.Need-same-length-2
 same-length-2 c = search needs
@@ -59,24 +57,17 @@ returns-2 : tie.Need-returns-2
 returns-2 c =
     let p = c .before .before in
     let t = p .before .before in
-    let f = t .before .before in
-    let n = f .before .before in
-    let s = n .before .before .before .before .args .rest .now in
-    record {
-      put = rw (sym (kept t)) (p .put-ended .ensures);
-      size = near-size s (n .find .result) (n .find .ensures .is ∙ ap (indexOf 10) (n .before .first .ensures)) (f .before .if1 .left);
-    }
+    record { put = rw (sym (kept t)) (p .put-ended .ensures); size = size (t .before .before .before) }
 
 pub put-line-spec : {M : Type 1} → statement M
 put-line-spec =
     tie.close
     (tie.spec
-    first-requires
-    find-requires
+    near-requires
     put-long-requires
     same-length
     returns
-    first-requires-2
+    first-requires
     trim-ascii-start-requires
     trim-ascii-end-requires
     put-ended-requires

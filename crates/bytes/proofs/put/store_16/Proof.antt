@@ -1,4 +1,4 @@
--- `crate::put::put_bytes` meets its contract. Invariant: what is left of src, stored on out as it is, gives the end's bytes. Measure: src's length less i.
+-- `crate::put::store_16` meets its contract. Invariant: what is left of t, stored on out as it is, gives the end's bytes. Measure: 16 less i.
 -- Assumes nothing.
 use mathlib.Core.Path.{_≡_, refl, sym, ap, _∙_}
 use Prim.Native.Nat.{ℕ, _+_, _-_, _≤_}
@@ -8,20 +8,20 @@ use lib.Seq.{sets}
 use lib.ListN.{length, drop, length-set}
 use borrow.Author.Needs.{needs}
 use Rattle.text.proofs.WroteLaws.{wrote, copy-step, copy-end}
-use Rattle.bytes.proofs.put.put_bytes.Statement.{statement}
-use Rattle.bytes.proofs.put.put_bytes.Tie as tie
+use Rattle.bytes.proofs.put.store_16.Statement.{statement}
+use Rattle.bytes.proofs.put.store_16.Tie as tie
 
 abbrev Inv-loop : tie.InvT-loop
-Inv-loop src out₀ at i₀ out i = (i ≤ length src) × (length out ≡ length out₀) × (sets out (at + i) (drop i src) ≡ sets out₀ at src)
+Inv-loop out₀ at t i₀ out i = (i ≤ 16) × (length out ≡ length out₀) × (sets out (at + i) (drop i t) ≡ sets out₀ at t)
 
 abbrev μ-loop : tie.MeasureT-loop
-μ-loop src out₀ at i₀ out i = length src - i
+μ-loop out₀ at t i₀ out i = 16 - i
 
 loop-holds : tie.Need-loop-holds Inv-loop μ-loop
-loop-holds c = (omega arith, refl, ap (λ (k : ℕ). sets (c .args .out .now) k (c .args .src .now)) (add-zero (c .args .at)))
+loop-holds c = (search needs, refl, ap (λ (k : ℕ). sets (c .args .out .now) k (c .args .t1)) (add-zero (c .args .at)))
 
-shared-slice-read-out : tie.Need-shared-slice-read-out Inv-loop μ-loop
-shared-slice-read-out c = search needs
+array-read-out : tie.Need-array-read-out Inv-loop μ-loop
+array-read-out c = search needs
 
 add-out : tie.Need-add-out Inv-loop μ-loop
 add-out c = search needs
@@ -37,9 +37,9 @@ loop-less c = search needs
 
 loop-again : tie.Need-loop-again Inv-loop μ-loop
 loop-again c =
-    let l = c .before .before in
+    let l = c .before in
     let s = l .before .args in
-    (search needs, simp length-set (l .loop .inv .1), copy-step (s .src .now) (l .loop .out) (s .at) (l .loop .i) (c .before .loop-test .taken) ∙ l .loop .inv .2)
+    (search needs, simp length-set (l .loop .inv .1), copy-step (s .t1) (l .loop .out) (s .at) (l .loop .i) (omega arith) ∙ l .loop .inv .2)
 
 same-length : tie.Need-same-length Inv-loop μ-loop
 same-length c = search needs
@@ -48,16 +48,16 @@ returns : tie.Need-returns Inv-loop μ-loop
 returns c =
     let l = c .before in
     let s = l .before .args in
-    wrote (sym (copy-end (s .src .now) (l .loop .out) (s .at) (l .loop .i) (c .loop-test .left)) ∙ l .loop .inv .2)
+    wrote (sym (copy-end (s .t1) (l .loop .out) (s .at) (l .loop .i) (omega arith)) ∙ l .loop .inv .2)
 
-pub put-bytes-spec : {M : Type 1} → statement M
-put-bytes-spec =
+pub store-16-spec : {M : Type 1} → statement M
+store-16-spec =
     tie.close
     (tie.spec
     Inv-loop
     μ-loop
     loop-holds
-    shared-slice-read-out
+    array-read-out
     add-out
     slice-write-out
     add-i

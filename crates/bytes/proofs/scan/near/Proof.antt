@@ -1,0 +1,79 @@
+-- `crate::scan::near` meets its contract. Invariant: no b stands before i. Measure: 64 less i.
+-- Assumes nothing.
+use Prim.Native.Nat.{_-_, _/_, _≤_, _<_}
+use native.Mathlib.Omega.{arith}
+use lib.Count.{trailingZeros}
+use borrow.Author.Needs.{needs}
+use Rattle.text.specs.Scan.{None}
+use Rattle.text.proofs.ScanLaws.{none-empty, none-join}
+use Rattle.text.proofs.WordLaws.{mark-near, mark-first, mark-none}
+use Rattle.bytes.proofs.scan.near.Statement.{statement}
+use Rattle.bytes.proofs.scan.near.Tie as tie
+
+abbrev Inv-loop : tie.InvT-loop
+Inv-loop a b i₀ i = (i ≤ 64) × None a b 0 i
+
+abbrev μ-loop : tie.MeasureT-loop
+μ-loop a b i₀ i = 64 - i
+
+returns : tie.Need-returns Inv-loop μ-loop
+returns c = record { low = omega arith; found = λ h. absurd (omega arith) }
+
+loop-holds : tie.Need-loop-holds Inv-loop μ-loop
+loop-holds c = (omega arith, none-empty (omega arith))
+
+marks-requires : tie.Need-marks-requires Inv-loop μ-loop
+marks-requires c κs = search needs
+
+-- the first b is among these eight
+near : (c : tie.Then2 Inv-loop μ-loop) → trailingZeros 64 (c .before .marks .result) / 8 < 8
+near c = mark-near (c .before .before .before .before .before .before .args .a .now) (c .before .before .before .before .before .before .args .b) (c .before .before .before .loop .i) (c .before .marks .ensures) (c .if2 .taken)
+
+cast-result : tie.Need-cast-result Inv-loop μ-loop
+cast-result c = let h = near c in record { fits = omega arith }
+
+add-result : tie.Need-add-result Inv-loop μ-loop
+add-result c = let h = near c in record { fits = omega arith }
+
+returns-2 : tie.Need-returns-2 Inv-loop μ-loop
+returns-2 c =
+    let l = c .before .before .before in
+    let s = l .before .before .before .args in
+    let h = near c in
+    let f = mark-first (s .a .now) (s .b) (l .loop .i) (c .before .marks .ensures) in
+    record {
+      low = omega arith;
+      found = λ p. record { low = omega arith; high = omega arith; before = none-join (l .loop .inv .1) (f .before); found = λ q. f .found (omega arith) };
+    }
+
+add-i : tie.Need-add-i Inv-loop μ-loop
+add-i c = search needs
+
+loop-less : tie.Need-loop-less Inv-loop μ-loop
+loop-less c = search needs
+
+loop-again : tie.Need-loop-again Inv-loop μ-loop
+loop-again c =
+    let l = c .before .before .before in
+    let s = l .before .before .before .args in
+    (omega arith, none-join (l .loop .inv .1) (mark-none (s .a .now) (s .b) (l .loop .i) (c .before .marks .ensures) (c .if2 .left)))
+
+returns-3 : tie.Need-returns-3 Inv-loop μ-loop
+returns-3 c = record { low = omega arith; found = λ h. absurd (omega arith) }
+
+pub near-spec : {M : Type 1} → statement M
+near-spec =
+    tie.close
+    (tie.spec
+    Inv-loop
+    μ-loop
+    returns
+    loop-holds
+    marks-requires
+    cast-result
+    add-result
+    returns-2
+    add-i
+    loop-less
+    loop-again
+    returns-3)
