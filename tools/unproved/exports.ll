@@ -1,0 +1,56 @@
+; The entry points of include/laddertick.h over the functions of the crate laddertick_c as the unproved module has them, there named inner_..: a slice and a
+; struct are passed by their addresses, and so is the place for the answer. In the module itself, so that they are compiled into one as `rt staticlib` does it.
+%slice = type { ptr, i64 }
+%written = type { i32, i64 }
+
+define void @laddertick_start(ptr noalias sret([24 x i8]) align 8 %to) {
+  call void @inner_start(ptr %to)
+  ret void
+}
+
+define void @laddertick_step(ptr noalias sret([144 x i8]) align 8 %to, ptr %input, i64 %len, ptr byval([24 x i8]) align 8 %walk) {
+  %s = alloca %slice, align 8
+  call void @slice_of(ptr %s, ptr %input, i64 %len)
+  call void @inner_step(ptr %to, ptr %s, ptr %walk)
+  ret void
+}
+
+define %written @laddertick_data(ptr %input, i64 %len, i64 %start, i64 %count, ptr %out, i64 %out_len) {
+  %s = alloca %slice, align 8
+  %o = alloca %slice, align 8
+  %w = alloca %written, align 8
+  call void @slice_of(ptr %s, ptr %input, i64 %len)
+  call void @slice_of(ptr %o, ptr %out, i64 %out_len)
+  call void @inner_data(ptr %w, ptr %s, i64 %start, i64 %count, ptr %o)
+  %r = load %written, ptr %w, align 8
+  ret %written %r
+}
+
+define %written @laddertick_list(ptr %input, i64 %len, ptr %out, i64 %out_len) {
+  %s = alloca %slice, align 8
+  %o = alloca %slice, align 8
+  %w = alloca %written, align 8
+  call void @slice_of(ptr %s, ptr %input, i64 %len)
+  call void @slice_of(ptr %o, ptr %out, i64 %out_len)
+  call void @inner_list(ptr %w, ptr %s, ptr %o)
+  %r = load %written, ptr %w, align 8
+  ret %written %r
+}
+
+define %written @laddertick_normalise(ptr %input, i64 %len, ptr %out, i64 %out_len) {
+  %s = alloca %slice, align 8
+  %o = alloca %slice, align 8
+  %w = alloca %written, align 8
+  call void @slice_of(ptr %s, ptr %input, i64 %len)
+  call void @slice_of(ptr %o, ptr %out, i64 %out_len)
+  call void @inner_normalise(ptr %w, ptr %s, ptr %o)
+  %r = load %written, ptr %w, align 8
+  ret %written %r
+}
+
+define internal void @slice_of(ptr %s, ptr %bytes, i64 %len) alwaysinline {
+  store ptr %bytes, ptr %s, align 8
+  %l = getelementptr i8, ptr %s, i64 8
+  store i64 %len, ptr %l, align 8
+  ret void
+}
