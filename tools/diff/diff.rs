@@ -130,6 +130,7 @@ fn made(maker: &mut Maker) -> Vec<u8> {
         8 if maker.rng.one_in(40) => maker.graphics(6_000),
         8 if maker.rng.one_in(200) => qr_sizes(maker),
         9 if maker.rng.one_in(20) => long_lines(maker),
+        9 if maker.rng.one_in(4) => near_lf(maker),
         8..=9 => maker.unit(),
         10 => maker.tokens(16),
         11 => maker.bytes(32),
@@ -185,6 +186,19 @@ fn long_lines(maker: &mut Maker) -> Vec<u8> {
     if maker.rng.one_in(2) {
         input.extend(maker.label());
     }
+    input
+}
+
+/// Lines of up to some sixty-four bytes and more, of blanks and of bytes that are LF but for one bit.
+fn near_lf(maker: &mut Maker) -> Vec<u8> {
+    let mut input = Vec::new();
+    for _ in 0..1 + maker.rng.below(6) {
+        for _ in 0..maker.rng.below(150) {
+            input.push([0x8a, 0x4a, 0x2a, 0x1a, 0x02, 0x0e, 0x08, 0x0b, b' ', b'\r'][maker.rng.below(10)]);
+        }
+        input.push(b'\n');
+    }
+    input.truncate(input.len() - maker.rng.below(2));
     input
 }
 

@@ -39,9 +39,13 @@ spanOf lead t = record { start = lead + indexOf 34 t + 1; len = length (quoted t
 unfoldable pub quotedReading : DataCommand → ℕ → List ℕ → LabelPosition → Reading
 quotedReading c lead t r = cond (eqb (length (quoted t)) 0) reading.Nothing (withData c (paramsOf t) (quoted t) (spanOf lead t) r)
 
+-- "`R` .. set[s] the reference"
+abbrev pub setTo : LabelPosition → Reading
+setTo p = reading.Reference (p .x) (p .y)
+
 abbrev pub commandReading : Command → ℕ → List ℕ → LabelPosition → Reading
 commandReading Clear lead t r = reading.Clear
-commandReading Reference lead t r = reading.Reference (referenceOf (drop 1 t) r)
+commandReading Reference lead t r = setTo (referenceOf (drop 1 t) r)
 commandReading (Data c) lead t r = quotedReading c lead t r
 commandReading (Line c) lead t r = lineReading (drop 2 t) c r
 commandReading Diagonal lead t r = diagonalReading (drop 2 t) r

@@ -3,7 +3,7 @@ ghost use mathlib.Core.Path.{_≡_};
 ghost use Prim.Native.Nat.{_+_, _<_};
 ghost use lib.ListN.{length};
 ghost use Rattle.parameters.specs.Reading.{laterReading};
-ghost use Rattle.commands.specs.Line.{withData, quotedReading, commandReading, readLine};
+ghost use Rattle.commands.specs.Line.{withData, quotedReading, setTo, commandReading, readLine};
 use barcodes::barcode::parse_epl_barcode;
 use barcodes_2d::barcode_2d::parse_epl_2d_barcode;
 use bytes::fields::before_last;
@@ -65,6 +65,12 @@ fn read_quoted(c: DataCommand, t: &[u8], lead: usize, reference: LabelPosition) 
     with_data(c, params, data, span, reference)
 }
 
+fn set_to(p: LabelPosition) -> Reading
+    ensures { λ r. ⌜ r ≡ setTo p ⌝ }
+{
+    Reading::Reference(p.x, p.y)
+}
+
 // A command of the line t, whose blanks are off.
 fn read_command(c: Command, t: &[u8], lead: usize, reference: LabelPosition) -> Reading
     requires { ⌜ lead + length (now t) < 18446744073709551616 ⌝ }
@@ -72,7 +78,7 @@ fn read_command(c: Command, t: &[u8], lead: usize, reference: LabelPosition) -> 
 {
     match c {
         Command::Clear => Reading::Clear,
-        Command::Reference => Reading::Reference(parse_epl_reference(tail(t), reference)),
+        Command::Reference => set_to(parse_epl_reference(tail(t), reference)),
         Command::Data(d) => read_quoted(d, t, lead, reference),
         Command::Line(line_color) => parse_epl_line(tail_two(t), line_color, reference),
         Command::Diagonal => parse_epl_diagonal(tail_two(t), reference),

@@ -32,13 +32,13 @@ use Rattle.grammar.proofs.FoundLaws.{span-first}
 refused≢nothing : {n : Refusal} → block.Refused n ≡ block.Nothing → ⊥
 refused≢nothing e = let z : _≡_ {A = ℕ} 0 1 = cc in omega arith
 
-element≢nothing : {size : ℕ} {e : LabelElement} → block.Element size e ≡ block.Nothing → ⊥
+element≢nothing : {size : ℕ} {e : LabelElement} → block.Element e size ≡ block.Nothing → ⊥
 element≢nothing e = let z : _≡_ {A = ℕ} 0 1 = cc in omega arith
 
 -- what is answered for a block
 abbrev blockTurn : Block → Reading LabelPosition LabelElement Unit
 blockTurn block.Nothing = nothing
-blockTurn (block.Element size e) = gives size e
+blockTurn (block.Element e size) = gives size e
 blockTurn (block.Refused n) = fault (numberOf n)
 
 -- a block's act is what `graphicPlaced` says
@@ -73,7 +73,7 @@ block-turn s r n = by (gwSpan s) refl n
 moved-block : (at : ℕ) (b : Block) → moved epl at (blockTurn b) ≡ blockTurn (laterBlock at b)
 moved-block at block.Nothing = refl
 moved-block at (block.Refused n) = refl
-moved-block at (block.Element size e) = refl
+moved-block at (block.Element e size) = refl
 
 module _ (at : ℕ) (s : List ℕ) (r : LabelPosition) where
   block-moved : (b : Block) → (b ≡ block.Nothing → ⊥) → laterBlock at (blockReading (gwSpan s) r) ≡ b → moved epl at (readingOf epl s r) ≡ blockTurn b
@@ -82,8 +82,8 @@ module _ (at : ℕ) (s : List ℕ) (r : LabelPosition) where
   pub block-fault : (n : Refusal) → laterBlock at (blockReading (gwSpan s) r) ≡ block.Refused n → moved epl at (readingOf epl s r) ≡ fault (numberOf n)
   block-fault n h = block-moved (block.Refused n) refused≢nothing h
 
-  pub block-gives : (size : ℕ) (e : LabelElement) → laterBlock at (blockReading (gwSpan s) r) ≡ block.Element size e → moved epl at (readingOf epl s r) ≡ gives size e
-  block-gives size e h = block-moved (block.Element size e) element≢nothing h
+  pub block-gives : (size : ℕ) (e : LabelElement) → laterBlock at (blockReading (gwSpan s) r) ≡ block.Element e size → moved epl at (readingOf epl s r) ≡ gives size e
+  block-gives size e h = block-moved (block.Element e size) element≢nothing h
 
   pub block-none : laterBlock at (blockReading (gwSpan s) r) ≡ block.Nothing → gwSpan s ≡ graphic.Nothing
   unfolding graphicAt

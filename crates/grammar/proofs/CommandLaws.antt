@@ -54,7 +54,7 @@ use Rattle.grammar.proofs.TypeLaws.{isListed2d, isQr, typed-2d}
 abbrev pub Passed : List DataSpan → Reading → Type 0
 Passed ds reading.Nothing = Unit
 Passed ds reading.Clear = Unit
-Passed ds (reading.Reference p) = Unit
+Passed ds (reading.Reference x y) = Unit
 Passed ds (reading.Element e) = spans e ≡ ds
 Passed ds reading.Print = Unit
 Passed ds (reading.Refused n) = n ≡ refusal.OutOfRange

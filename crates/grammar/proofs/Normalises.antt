@@ -73,7 +73,7 @@ module _ (F : Type 0) (frame : List ℕ → LabelElement → F)
           ap (λ (f : F). goes [] r (p ++ (f ∷ []))) (ap (λ (x : List ℕ). frame x (shifted (leadOf t) e)) b ∙ line-frame t end e (line-in (trim t) r e h))
       by reading.Nothing h = refl
       by reading.Clear h = refl
-      by (reading.Reference q) h = refl
+      by (reading.Reference x y) h = refl
       by reading.Print h = refl
       by (reading.Refused n) h = refl
 

@@ -82,7 +82,7 @@ pub act-yields : (r : LabelPosition) (x : Reading) (e : LabelElement) → actOf 
 act-yields r (reading.Element f) e h = cc
 act-yields r reading.Nothing e h = cc
 act-yields r reading.Clear e h = cc
-act-yields r (reading.Reference p) e h = cc
+act-yields r (reading.Reference x y) e h = cc
 act-yields r reading.Print e h = cc
 act-yields r (reading.Refused n) e h = cc
 

@@ -29,7 +29,7 @@ abbrev pub actOf : LabelPosition → Reading → EplAct
 actOf r reading.Nothing = keep r
 -- "`N` alone drops pending elements and sets the reference to 0,0"
 actOf r reading.Clear = clear origin
-actOf r (reading.Reference p) = keep p
+actOf r (reading.Reference x y) = keep (record { x = x; y = y })
 actOf r (reading.Element e) = yield e
 actOf r reading.Print = print tt
 actOf r (reading.Refused n) = outside (numberOf n)

@@ -99,8 +99,9 @@ gwSpan s =
 
 abbrev pub graphicPlaced : GwSpan → Placed → Block
 graphicPlaced g (placing.At p) =
-    block.Element (g .«data_end»)
+    block.Element
     (element.GraphicField (record { position = p; «row_bytes» = g .«width_bytes»; «data» = record { start = g .«data_start»; len = g .«data_end» - g .«data_start» } }))
+    (g .«data_end»)
 graphicPlaced g placing.Outside = block.Refused refusal.OutOfRange
 
 unfoldable pub graphicAt : GwSpan → LabelPosition → Block
@@ -116,7 +117,7 @@ blockReading (graphic.Span g) r = graphicAt g r
 abbrev pub laterBlock : ℕ → Block → Block
 laterBlock n block.Nothing = block.Nothing
 laterBlock n (block.Refused k) = block.Refused k
-laterBlock n (block.Element size e) = block.Element size (shifted n e)
+laterBlock n (block.Element e size) = block.Element (shifted n e) size
 
 -- what `header_field_len` answers: how far the first header field goes
 pub record FieldLen (t : List ℕ) (r : ℕ) : Type 0 where

@@ -213,7 +213,7 @@ pub fn gw_span(rest: &[u8]) -> Graphic
 pub enum Block {
     Nothing,
     Refused(Refusal),
-    Element(usize, LabelElement),
+    Element(LabelElement, usize),
 }
 
 // The block that stands first in rest, itself at the place `at`, at a reference: 10, 11, 12, then 13.
@@ -241,7 +241,6 @@ fn graphic_at(g: GwSpan, at: usize, reference: LabelPosition) -> Block
         return Block::Refused(Refusal::OutOfRange);
     };
     Block::Element(
-        g.data_end,
         LabelElement::GraphicField(GraphicField {
             position,
             row_bytes: g.width_bytes,
@@ -250,5 +249,6 @@ fn graphic_at(g: GwSpan, at: usize, reference: LabelPosition) -> Block
                 len: g.data_end - g.data_start,
             },
         }),
+        g.data_end,
     )
 }

@@ -8,7 +8,7 @@ use Rattle.parameters.specs.declared.reading.Reading.the-variants.{Nothi
 abbrev pub laterReading : ℕ → Reading → Reading
 laterReading n Nothing = Nothing
 laterReading n Clear = Clear
-laterReading n (Reference p) = Reference p
+laterReading n (Reference x y) = Reference x y
 laterReading n (Element e) = Element (shifted n e)
 laterReading n Print = Print
 laterReading n (Refused k) = Refused k

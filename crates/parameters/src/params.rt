@@ -164,7 +164,7 @@ fn is_alone(s: &[u8]) -> bool
 }
 
 // The first field, its blanks off, is exactly the byte b.
-pub fn is_exactly(s: &[u8], b: u8) -> bool
+fn is_field(s: &[u8], b: u8) -> bool
     ensures { λ r. ⌜ r ≡ exactly b (now (s .entry)) ⌝ }
 {
     if is_alone(s) {
@@ -172,6 +172,19 @@ pub fn is_exactly(s: &[u8], b: u8) -> bool
     }
     let t = type_at(s);
     if t.len() == 1 { t[0] == b } else { false }
+}
+
+// The same; a last field of one byte, which most are, is told at once. Small, so that it is inlined; the other fields are a call.
+pub fn is_exactly(s: &[u8], b: u8) -> bool
+    ensures { λ r. ⌜ r ≡ exactly b (now (s .entry)) ⌝ }
+{
+    if s.len() != 1 {
+        return is_field(s, b);
+    }
+    if is_mark(s[0]) {
+        return s[0] == b;
+    }
+    is_field(s, b)
 }
 
 // At least n fields. Nothing behind the comma that opens the n-th is looked at.

@@ -1,6 +1,5 @@
 // What one line says.
 use elements::LabelElement;
-use elements::LabelPosition;
 use elements::refusal::Refusal;
 
 pub enum Reading {
@@ -8,8 +7,8 @@ pub enum Reading {
     Nothing,
     // `N`: what is pending is dropped, the reference becomes 0,0.
     Clear,
-    // `R`: the reference point from here on.
-    Reference(LabelPosition),
+    // `R`: the reference point from here on, x and y.
+    Reference(i32, i32),
     // An element; its data's place is counted from where its reader was told to count.
     Element(LabelElement),
     // `P`: what is pending is printed.

@@ -41,7 +41,7 @@ line-turn size r t =
 did-later : (at size : ℕ) (r : LabelPosition) (x : Reading) → did size (actOf r (laterReading at x)) ≡ moved epl at (did size (actOf r x))
 did-later at size r reading.Nothing = refl
 did-later at size r reading.Clear = refl
-did-later at size r (reading.Reference p) = refl
+did-later at size r (reading.Reference x y) = refl
 did-later at size r (reading.Element e) = refl
 did-later at size r reading.Print = refl
 did-later at size r (reading.Refused n) = refl

@@ -12,5 +12,5 @@ unitOf unit.Nothing = theory.nothing
 unitOf (unit.Fault k) = theory.fault (numberOf k)
 unitOf (unit.Passed size r) = theory.passes size r
 unitOf (unit.Cleared size) = theory.clears-to size origin
-unitOf (unit.Element size e) = theory.gives size e
+unitOf (unit.Element e size) = theory.gives size e
 unitOf (unit.Print size) = theory.asks-print size tt

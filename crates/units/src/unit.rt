@@ -24,7 +24,7 @@ pub enum UnitReading {
     // It is passed, with this reference from here on.
     Passed(usize, LabelPosition),
     Cleared(usize),
-    Element(usize, LabelElement),
+    Element(LabelElement, usize),
     Print(usize),
 }
 
@@ -42,8 +42,8 @@ fn line_unit(size: usize, said: Reading, reference: LabelPosition) -> UnitReadin
     match said {
         Reading::Nothing => UnitReading::Passed(size, reference),
         Reading::Clear => UnitReading::Cleared(size),
-        Reading::Reference(p) => UnitReading::Passed(size, p),
-        Reading::Element(e) => UnitReading::Element(size, e),
+        Reading::Reference(x, y) => UnitReading::Passed(size, LabelPosition { x, y }),
+        Reading::Element(e) => UnitReading::Element(e, size),
         Reading::Print => UnitReading::Print(size),
         Reading::Refused(n) => UnitReading::Fault(n),
     }
@@ -70,6 +70,6 @@ pub fn read_unit(rest: &[u8], at: usize, reference: LabelPosition) -> UnitReadin
     match read_block(rest, at, reference) {
         Block::Nothing => read_text_line(rest, at, reference),
         Block::Refused(n) => UnitReading::Fault(n),
-        Block::Element(size, e) => UnitReading::Element(size, e),
+        Block::Element(e, size) => UnitReading::Element(e, size),
     }
 }

@@ -63,7 +63,7 @@ pub fn step(input: &[u8], st: WalkState) -> Step
                     pending: 0,
                 });
             }
-            UnitReading::Element(size, e) => {
+            UnitReading::Element(e, size) => {
                 return Step::Element(
                     e,
                     WalkState {

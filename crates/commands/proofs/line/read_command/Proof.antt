@@ -16,6 +16,9 @@ tail-requires c κs = search needs
 parse-epl-reference-requires : tie.Need-parse-epl-reference-requires
 parse-epl-reference-requires c κs = search needs
 
+set-to-requires : tie.Need-set-to-requires
+set-to-requires c κs = search needs
+
 enum-known-c : tie.Need-enum-known-c
 enum-known-c c = search needs
 
@@ -59,7 +62,7 @@ returns : tie.Need-returns
 returns c = search needs
 
 returns-2 : tie.Need-returns-2
-returns-2 c = simp (c .before .before .enum-told2 .given .1, c .parse-epl-reference .ensures, c .before .tail .ensures)
+returns-2 c = simp (c .before .before .before .enum-told2 .given .1) (simp (c .before .parse-epl-reference .ensures, c .before .before .tail .ensures) at (c .set-to .ensures))
 
 returns-3 : tie.Need-returns-3
 returns-3 c = simp (c .before .before .c .given .1) (c .read-quoted .ensures)
@@ -87,6 +90,7 @@ read-command-spec =
     enum-told-2
     tail-requires
     parse-epl-reference-requires
+    set-to-requires
     enum-known-c
     read-quoted-requires
     enum-known-c-2

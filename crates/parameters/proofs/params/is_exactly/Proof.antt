@@ -1,57 +1,47 @@
--- `parameters::params::is_exactly` meets its contract: a byte alone, or by the length of the field.
+-- `parameters::params::is_exactly` meets its contract: a byte alone is told at once.
 -- Assumes nothing.
-use mathlib.Core.Path.{_≡_, sym, ap, _∙_}
-use mathlib.Core.Bool.{true}
-use mathlib.Core.List.{List, [], _∷_}
-use Prim.Native.Nat.{ℕ}
-use native.Mathlib.Omega.{arith}
-use Rattle.text.specs.Fields.{same}
-use Rattle.parameters.specs.Params.{exactly, alone}
-use Rattle.parameters.proofs.ParamsLaws.{alone-some, alone-exactly, same-one, same-other}
+use mathlib.Core.Path.{sym, _∙_}
+use Rattle.parameters.proofs.ParamsLaws.{alone-one, alone-exactly}
 use borrow.Author.Needs.{needs}
 use Rattle.parameters.proofs.params.is_exactly.Statement.{statement}
 use Rattle.parameters.proofs.params.is_exactly.Tie as tie
 
-is-alone-requires : tie.Need-is-alone-requires
-is-alone-requires c κs = search needs
-
-told : (c : tie.Then1) → alone (c .before .before .before .args .s .now) ≡ true
-told c = sym (c .before .is-alone .ensures) ∙ c .if1 .taken
-
-shared-slice-read-result : tie.Need-shared-slice-read-result
-shared-slice-read-result c = let t = c .before in omega (arith, alone-some (t .before .before .before .args .s .now) (told t))
+is-field-requires : tie.Need-is-field-requires
+is-field-requires c κs = search needs
 
 returns : tie.Need-returns
-returns c = let a = c .before .before .before .before .args in alone-exactly (a .s .now) (a .b) (told (c .before))
+returns c = search needs
 
-type-at-requires : tie.Need-type-at-requires
-type-at-requires c κs = search needs
+shared-slice-read-is-mark : tie.Need-shared-slice-read-is-mark
+shared-slice-read-is-mark c = search needs
 
-shared-slice-read-result-2 : tie.Need-shared-slice-read-result-2
-shared-slice-read-result-2 c = search needs
+is-mark-requires : tie.Need-is-mark-requires
+is-mark-requires c κs = search needs
+
+shared-slice-read-result : tie.Need-shared-slice-read-result
+shared-slice-read-result c = search needs
 
 returns-2 : tie.Need-returns-2
-unfolding exactly
 returns-2 c =
-    let t = c .before .before .type-at in
-    let b = c .before .before .before .before .before .before .args .b in
-    same-one (t .result .now) b (c .before .if2 .taken) ∙ ap (λ (l : List ℕ). same l (b ∷ [])) (t .ensures)
+    let m = c .before .before in
+    let a = m .before .before .before .before .args in
+    alone-exactly (a .s .now) (a .b) (sym (alone-one (a .s .now) (m .before .before .if1 .left)) ∙ sym (m .is-mark .ensures) ∙ c .before .if2 .taken)
+
+is-field-requires-2 : tie.Need-is-field-requires-2
+is-field-requires-2 c κs = search needs
 
 returns-3 : tie.Need-returns-3
-unfolding exactly
-returns-3 c =
-    let t = c .before .type-at in
-    let b = c .before .before .before .before .before .args .b in
-    same-other (t .result .now) b (c .if2 .left) ∙ ap (λ (l : List ℕ). same l (b ∷ [])) (t .ensures)
+returns-3 c = search needs
 
 pub is-exactly-spec : {M : Type 1} → statement M
 is-exactly-spec =
     tie.close
     (tie.spec
-    is-alone-requires
-    shared-slice-read-result
+    is-field-requires
     returns
-    type-at-requires
-    shared-slice-read-result-2
+    shared-slice-read-is-mark
+    is-mark-requires
+    shared-slice-read-result
     returns-2
+    is-field-requires-2
     returns-3)

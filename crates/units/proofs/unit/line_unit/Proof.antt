@@ -5,6 +5,7 @@ use Rattle.elements.specs.declared.LabelPosition.{LabelPosition}
 use Rattle.parameters.specs.declared.reading.Reading.{Reading}
 use Rattle.whole.specs.Reading.{did}
 use Rattle.grammar.specs.Epl.{actOf}
+use Rattle.numbers.proofs.IntLaws.{back32}
 use borrow.Author.Needs.{needs}
 use Rattle.units.proofs.unit.line_unit.Statement.{statement}
 use Rattle.units.proofs.unit.line_unit.Tie as tie
@@ -37,7 +38,10 @@ returns-2 : tie.Need-returns-2
 returns-2 c = by (c .before .before .args .size) (c .before .before .args .reference) (c .enum-told2 .given .1)
 
 returns-3 : tie.Need-returns-3
-returns-3 c = by (c .before .before .before .args .size) (c .before .before .before .args .reference) (c .before .said .given .1)
+returns-3 c =
+    let k = c .known-told .given in
+    let g = c .before .said .given in
+    rw (back32 (g .0 .0) (k .0 .1), back32 (g .0 .1 .0) (k .1 .0 .1)) (by (c .before .before .before .args .size) (c .before .before .before .args .reference) (g .1))
 
 returns-4 : tie.Need-returns-4
 returns-4 c = by (c .before .before .before .args .size) (c .before .before .before .args .reference) (c .before .said2 .given .1)

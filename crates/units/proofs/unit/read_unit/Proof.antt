@@ -23,8 +23,8 @@ read-text-line-requires c κs = search needs
 enum-known-n : tie.Need-enum-known-n
 enum-known-n c = search needs
 
-enum-known-size : tie.Need-enum-known-size
-enum-known-size c = search needs
+enum-known-e : tie.Need-enum-known-e
+enum-known-e c = search needs
 
 returns-2 : tie.Need-returns-2
 returns-2 c =
@@ -42,7 +42,7 @@ returns-4 : tie.Need-returns-4
 returns-4 c =
     let b = c .before .before .before in
     let a = b .before .before .before .args in
-    sym (block-gives (a .at) (a .rest .now) (a .reference) (c .before .size .given .0 .0) (c .before .size .given .0 .1 .0) (sym (b .read-block .ensures) ∙ c .before .size .given .1))
+    sym (block-gives (a .at) (a .rest .now) (a .reference) (c .before .e .given .0 .1 .0) (c .before .e .given .0 .0) (sym (b .read-block .ensures) ∙ c .before .e .given .1))
 
 pub read-unit-spec : {M : Type 1} → statement M
 read-unit-spec =
@@ -53,7 +53,7 @@ read-unit-spec =
     enum-told
     read-text-line-requires
     enum-known-n
-    enum-known-size
+    enum-known-e
     returns-2
     returns-3
     returns-4)

@@ -106,44 +106,44 @@ add-t23 c = omega (arith, room (c .before .before .before) (Cleared (c .before .
 returns-6 : tie.Need-returns-6 Inv-loop μ-loop
 returns-6 c = taken (c .before .before .before) (Cleared (c .before .size2 .given .0 .0)) (c .before .size2 .given .1)
 
-enum-known-size-3 : tie.Need-enum-known-size-3 Inv-loop μ-loop
-enum-known-size-3 c = search needs
+enum-known-e : tie.Need-enum-known-e Inv-loop μ-loop
+enum-known-e c = search needs
 
 add-t26 : tie.Need-add-t26 Inv-loop μ-loop
-add-t26 c = omega (arith, room (c .before .before .before) (Element (c .before .size3 .given .0 .0) (c .before .size3 .given .0 .1 .0)) (c .before .size3 .given .1))
+add-t26 c = omega (arith, room (c .before .before .before) (Element (c .before .e .given .0 .0) (c .before .e .given .0 .1 .0)) (c .before .e .given .1))
 
 add-t27 : tie.Need-add-t27 Inv-loop μ-loop
 add-t27 c = omega arith
 
 returns-7 : tie.Need-returns-7 Inv-loop μ-loop
-returns-7 c = rw add-one (taken (c .before .before .before) (Element (c .before .size3 .given .0 .0) (c .before .size3 .given .0 .1 .0)) (c .before .size3 .given .1))
+returns-7 c = rw add-one (taken (c .before .before .before) (Element (c .before .e .given .0 .0) (c .before .e .given .0 .1 .0)) (c .before .e .given .1))
 
-enum-known-size-4 : tie.Need-enum-known-size-4 Inv-loop μ-loop
-enum-known-size-4 c = search needs
+enum-known-size-3 : tie.Need-enum-known-size-3 Inv-loop μ-loop
+enum-known-size-3 c = search needs
 
 add-t31 : tie.Need-add-t31 Inv-loop μ-loop
-add-t31 c = omega (arith, room (c .before .before .before .before) (Print (c .before .before .size4 .given .0 .0)) (c .before .before .size4 .given .1))
+add-t31 c = omega (arith, room (c .before .before .before .before) (Print (c .before .before .size3 .given .0 .0)) (c .before .before .size3 .given .1))
 
 returns-8 : tie.Need-returns-8 Inv-loop μ-loop
 returns-8 c =
     let d = c .before .before .before .before in
     let l = d .before .before .loop in
     let a = d .before .before .before .before .before .before .before .before .args in
-    sym (print-some epl tt _ (l .at + c .before .before .size4 .given .0 .0) (l .reference) (a .st .pending) (omega arith)) ∙ taken d (Print (c .before .before .size4 .given .0 .0)) (c .before .before .size4 .given .1)
+    sym (print-some epl tt _ (l .at + c .before .before .size3 .given .0 .0) (l .reference) (a .st .pending) (omega arith)) ∙ taken d (Print (c .before .before .size3 .given .0 .0)) (c .before .before .size3 .given .1)
 
 add-at-2 : tie.Need-add-at-2 Inv-loop μ-loop
-add-at-2 c = omega (arith, room (c .before .before .before .before) (Print (c .before .before .size4 .given .0 .0)) (c .before .before .size4 .given .1))
+add-at-2 c = omega (arith, room (c .before .before .before .before) (Print (c .before .before .size3 .given .0 .0)) (c .before .before .size3 .given .1))
 
 loop-less-2 : tie.Need-loop-less-2 Inv-loop μ-loop
-loop-less-2 c = omega (arith, room (c .before .before .before .before) (Print (c .before .before .size4 .given .0 .0)) (c .before .before .size4 .given .1))
+loop-less-2 c = omega (arith, room (c .before .before .before .before) (Print (c .before .before .size3 .given .0 .0)) (c .before .before .size3 .given .1))
 
 loop-again-2 : tie.Need-loop-again-2 Inv-loop μ-loop
 loop-again-2 c =
     let d = c .before .before .before .before in
     let l = d .before .before .loop in
     let a = d .before .before .before .before .before .before .before .before .args in
-    let size = c .before .before .size4 .given .0 .0 in
-    (omega (arith, room d (Print size) (c .before .before .size4 .given .1)), sym (taken d (Print size) (c .before .before .size4 .given .1)) ∙ print-none epl tt _ (l .at + size) (l .reference) (a .st .pending) (omega arith) ∙ pass-on epl (stateOf (a .st)) (a .input .now) (l .at) size (l .reference) (a .st .pending))
+    let size = c .before .before .size3 .given .0 .0 in
+    (omega (arith, room d (Print size) (c .before .before .size3 .given .1)), sym (taken d (Print size) (c .before .before .size3 .given .1)) ∙ print-none epl tt _ (l .at + size) (l .reference) (a .st .pending) (omega arith) ∙ pass-on epl (stateOf (a .st)) (a .input .now) (l .at) size (l .reference) (a .st .pending))
 
 pub step-spec : {M : Type 1} → statement M
 step-spec =
@@ -171,11 +171,11 @@ step-spec =
     enum-known-size-2
     add-t23
     returns-6
-    enum-known-size-3
+    enum-known-e
     add-t26
     add-t27
     returns-7
-    enum-known-size-4
+    enum-known-size-3
     add-t31
     returns-8
     add-at-2
