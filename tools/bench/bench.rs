@@ -120,10 +120,10 @@ fn times_of<const N: usize>(seconds: u64, mut jobs: [Job; N]) -> [f64; N] {
 }
 
 /// The readings of "16 MiB, times the time of 1 MiB", the one that is taken first (docs/DECISIONS.md).
-const READINGS: [&str; 3] = ["sixteen files", "emptied", "again"];
+const READINGS: [&str; 3] = ["emptied", "sixteen files", "again"];
 
-/// How many times the time of 1 MiB a file of 16 MiB takes: of one file beside sixteen in a row, which take the same bytes from memory and to it; of calls that
-/// find nothing in the caches; and of the same call again and again, where a cache near the processor holds the smaller file and not the larger.
+/// How many times the time of 1 MiB a file of 16 MiB takes: of calls that find nothing in the caches; of one file beside sixteen in a row, which take the same bytes
+/// from memory and to it; and of the same call again and again, where a cache near the processor holds the smaller file and not the larger.
 fn growth(function: &Function, kind: &Kind) -> [f64; READINGS.len()] {
     let (small, large) = (made(kind, MIB), made(kind, 16 * MIB));
     let sixteen = Memory::holding(&small.repeat(16));
@@ -132,7 +132,7 @@ fn growth(function: &Function, kind: &Kind) -> [f64; READINGS.len()] {
         16.0 * sixteen / one
     };
     let again = |caches| times([&small, &large].map(|file| Job::new(function, file).over_16_mib(caches)));
-    [times([Job::in_a_row(function, &sixteen, MIB), Job::new(function, &large)]), again(Caches::Emptied), again(Caches::Left)]
+    [again(Caches::Emptied), times([Job::in_a_row(function, &sixteen, MIB), Job::new(function, &large)]), again(Caches::Left)]
 }
 
 fn made(kind: &Kind, size: usize) -> Memory {

@@ -1,8 +1,9 @@
 // Finding a byte, sixty-four at a time: a window is looked through with no early exit, so that the compiler can use wide registers.
+ghost use mathlib.Core.Path.{_≡_};
 ghost use Prim.Native.Nat.{_+_, _≤_};
 ghost use lib.ListN.{length};
 ghost use Rattle.text.specs.Fields.{Found};
-ghost use Rattle.text.specs.Scan.{Passed, First, Near};
+ghost use Rattle.text.specs.Scan.{Passed, First, Near, sizeBy};
 use crate::word::marks;
 
 // The first b among the sixty-four bytes from `from` on, counted from there, or 64: a minimum over all of them.
@@ -96,4 +97,11 @@ pub fn find(s: &[u8], b: u8) -> usize
     ensures { λ r. ⌜ Found b (now (s .entry)) r ⌝ }
 {
     scan(s, b)
+}
+
+// Of len bytes, those of a line whose LF stands at n, or that has none.
+pub fn line_size(n: usize, len: usize) -> usize
+    ensures { λ r. ⌜ r ≡ sizeBy n len ⌝ }
+{
+    if n < len { n + 1 } else { n }
 }

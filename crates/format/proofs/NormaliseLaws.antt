@@ -2,15 +2,16 @@
 use mathlib.Core.Path.{_≡_, sym, ap, _∙_}
 use mathlib.Core.List.{List, [], _++_}
 use Prim.Native.Nat.{ℕ, _+_, _-_, _<_, _≤_}
+use native.Mathlib.Numerals.{add-one}
 use native.Mathlib.Omega.{arith}
 use lib.Dec.{ltb}
 use lib.ListN.{length, length-append, length-drop, take, drop, drop-of-length-le}
 use lib.Seq.{length-take-le, drop-drop}
 use borrow.Author.Tests.{ltb-true, ltb-false}
 use Rattle.text.specs.Blank.{front, trimAscii}
-use Rattle.text.specs.Fields.{indexOf}
 use Rattle.text.proofs.BoolLaws.{test}
 use Rattle.text.proofs.DropSteps.{rest}
+use Rattle.text.proofs.ScanLaws.{size-with, size-without}
 use Rattle.whole.specs.Language.{First}
 use Rattle.grammar.specs.Units.{EplUnit, notLf}
 use Rattle.grammar.specs.Found.{textLine}
@@ -19,7 +20,7 @@ use Rattle.grammar.proofs.ChunkLaws.{normalised-is}
 use Rattle.grammar.proofs.LineTurnLaws.{front-index}
 use Rattle.grammar.proofs.NormalLaws.{normalised-nil}
 use Rattle.grammar.proofs.TrimmedLaws.{length-trimmed-le}
-use Rattle.lines.specs.Lines.{ended}
+use Rattle.lines.specs.Lines.{ended, lineSize}
 use Rattle.format.specs.Normalise.{Blocks}
 use Rattle.lines.proofs.EndedLaws.{ended-none, ended-length}
 use Rattle.format.proofs.FirstLaws.{text-line, text-last}
@@ -57,27 +58,37 @@ module _ (s : List ℕ) (at n : ℕ) (in-s : at < length s) (b : Blocks (here s 
       let l = length-take-le n (here s at) (b .inside) in
       omega (arith, ap length (block-turn h), length-append (ended part) (normalised (drop (at + n) s)), ended-length part (λ z. omega (arith, z, l, h)), l)
 
-  -- a line of k bytes, with an LF behind it and without one
-  module _ (none : n ≤ 0) (k : ℕ) (size : k ≡ length (front notLf (here s at))) where
+  -- a line of k bytes, its LF among them
+  module _ (none : n ≤ 0) (k : ℕ) (size : k ≡ lineSize (here s at)) where
     abbrev part : List ℕ
     part = trimAscii (front notLf (here s at))
 
+    abbrev end : ℕ
+    end = length (front notLf (here s at))
+
+    -- an LF stands behind it, or the line ends the text
+    cases : {P : Type 0} → (end < length (here s at) → k ≡ end + 1 → P) → (length (here s at) ≤ end → k ≡ end → P) → P
+    cases with-lf without =
+        test (ltb end (length (here s at)))
+        (λ e. with-lf (ltb-true end (length (here s at)) e) (size ∙ sym (size-with end (length (here s at)) (ltb-true end (length (here s at)) e)) ∙ sym (add-one end)))
+        (λ e. without (ltb-false end (length (here s at)) e) (size ∙ sym (size-without end (length (here s at)) (ltb-false end (length (here s at)) e))))
+
     pub line-in : at + k ≤ length s
-    line-in = omega (arith, size, long, front-le notLf (here s at), in-s)
+    line-in = cases (λ h e. omega (arith, e, h, long, in-s)) (λ h e. omega (arith, e, long, front-le notLf (here s at), in-s))
+
+    pub line-some : 0 < k
+    line-some = cases (λ h e. omega (arith, e)) (λ h e. omega (arith, e, h, long, in-s))
 
     by-line : normalised (drop at s) ≡ written (textLine (here s at)) normalised
     by-line = by-chunk ∙ ap (λ (f : First EplUnit). written f normalised) (b .line (omega (arith, none)))
 
-    index : k ≡ indexOf 10 (here s at)
-    index = size ∙ index-length (here s at)
-
-    line-is : take k (here s at) ≡ front notLf (here s at)
-    line-is = ap (λ (j : ℕ). take j (here s at)) index ∙ sym (front-index (here s at))
+    line-is : take end (here s at) ≡ front notLf (here s at)
+    line-is = ap (λ (j : ℕ). take j (here s at)) (index-length (here s at)) ∙ sym (front-index (here s at))
 
     -- so many bytes are left of it, and with an LF where there are any
     module _ (m : ℕ) (left : m ≡ length part) where
       pub left-le : m ≤ k
-      left-le = omega (arith, left, size, length-trimmed-le (front notLf (here s at)))
+      left-le = let t = length-trimmed-le (front notLf (here s at)) in cases (λ h e. omega (arith, left, e, t)) (λ h e. omega (arith, left, e, t))
 
       pub ended-some-left : 0 < m → length (ended part) ≡ m + 1
       ended-some-left h = omega (arith, left, ended-length part (λ z. omega (arith, z, left, h)))
@@ -85,20 +96,15 @@ module _ (s : List ℕ) (at n : ℕ) (in-s : at < length s) (b : Blocks (here s 
       pub ended-none-left : m ≤ 0 → length (ended part) ≡ 0
       ended-none-left h = ap length (ended-none part (omega (arith, left, h)))
 
-    pub line-turn : at + k < length s → normalised (drop at s) ≡ ended part ++ normalised (drop (at + k + 1) s)
-    line-turn h =
-        let a : at + (k + 1) ≡ at + k + 1 = omega arith in
-        by-line ∙ text-line (here s at) k index (omega (arith, long, h)) normalised
-        ∙ (λ i. ended (trimAscii (line-is i)) ++ behind (k + 1) i)
-        ∙ ap (λ (j : ℕ). ended part ++ normalised (drop j s)) a
+    pub line-turn : normalised (drop at s) ≡ ended part ++ normalised (drop (at + k) s)
+    line-turn =
+        cases
+        (λ h e.
+        by-line ∙ text-line (here s at) end (index-length (here s at)) h normalised
+        ∙ (λ i. ended (trimAscii (line-is i)) ++ behind (end + 1) i) ∙ ap (λ (j : ℕ). ended part ++ normalised (drop (at + j) s)) (sym e))
+        (λ h e.
+        by-line ∙ text-last (here s at) end (index-length (here s at)) (omega (arith, long, in-s)) h normalised
+        ∙ (λ i. ended (trimAscii (line-is i)) ++ behind end i) ∙ ap (λ (j : ℕ). ended part ++ normalised (drop (at + j) s)) (sym e))
 
-    pub last-turn : length s ≤ at + k → normalised (drop at s) ≡ ended part ++ normalised (drop (at + k) s)
-    last-turn h =
-        by-line ∙ text-last (here s at) k index (omega (arith, long, in-s)) (omega (arith, long, h)) normalised
-        ∙ (λ i. ended (trimAscii (line-is i)) ++ behind k i)
-
-    pub line-le : length (ended part) ≤ length (normalised (drop at s))
-    line-le =
-        test (ltb (at + k) (length s))
-        (λ e. omega (arith, ap length (line-turn (ltb-true (at + k) (length s) e)), length-append (ended part) (normalised (drop (at + k + 1) s))))
-        (λ e. omega (arith, ap length (last-turn (ltb-false (at + k) (length s) e)), length-append (ended part) (normalised (drop (at + k) s))))
+    pub line-counts : length (normalised (drop at s)) ≡ length (ended part) + length (normalised (drop (at + k) s))
+    line-counts = ap length line-turn ∙ length-append (ended part) (normalised (drop (at + k) s))

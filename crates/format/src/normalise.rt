@@ -53,9 +53,6 @@ fn measure(input: &[u8]) -> usize
                 total += l.len + 1;
             }
             at += l.size;
-            if at < input.len() {
-                at += 1;
-            }
         }
     }
     total
@@ -78,9 +75,6 @@ fn put_chunks(input: &[u8], out: &mut [u8]) -> usize
             let l = put_line(rest, out, to);
             to = l.to;
             at += l.size;
-            if at < input.len() {
-                at += 1;
-            }
         }
     }
     to

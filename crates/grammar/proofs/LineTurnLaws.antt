@@ -3,17 +3,18 @@
 use mathlib.Core.Path.{_≡_, refl, ap, _∙_}
 use mathlib.Core.Bool.{cond}
 use mathlib.Core.List.{List, [], _∷_, _++_}
-use Prim.Native.Nat.{ℕ, suc, _≤_, _<_}
+use Prim.Native.Nat.{ℕ, suc, _<_}
 use native.Mathlib.Numerals.{add-one}
 use native.Mathlib.Omega.{arith}
 use lib.Dec.{eqb}
 use lib.ListN.{length, length-append, take}
 use lib.Seq.{length-take-le}
-use borrow.Author.Tests.{lt-ltb, le-ltb}
 use Rattle.text.specs.Blank.{dropWhile, front, trim}
 use Rattle.text.specs.Fields.{indexOf}
+use Rattle.text.specs.Scan.{sizeBy}
 use Rattle.text.proofs.BoolLaws.{test}
 use Rattle.text.proofs.FieldsLaws.{index-le}
+use Rattle.text.proofs.ScanLaws.{size-with, size-without}
 use Rattle.elements.specs.declared.LabelPosition.{LabelPosition}
 use Rattle.graphics.specs.declared.gw_span.Graphic.{Graphic}
 use Rattle.graphics.specs.declared.gw_span.Graphic.the-variants as graphic
@@ -24,7 +25,7 @@ use Rattle.grammar.specs.WellFormed.{wellFormed, faultOf}
 use Rattle.grammar.specs.Units.{EplUnit, line, last, bytes, notLf}
 use Rattle.grammar.specs.Found.{lineBy, said, judged, found, first}
 use Rattle.grammar.specs.Epl.{acts, epl}
-use Rattle.grammar.specs.Turn.{sizeBy, lineTurn}
+use Rattle.grammar.specs.Turn.{lineTurn}
 use Rattle.grammar.proofs.FrontLaws.{front-drop}
 use Rattle.grammar.proofs.FoundLaws.{reads}
 
@@ -36,13 +37,6 @@ front-index (b ∷ s) = test (eqb b 10) (λ e. simp e) (λ e. simp (e, front-ind
 -- a line judged and then read is read where it is well formed
 judged-reads : (r : LabelPosition) (u : EplUnit) (rest : List ℕ) → reading epl r (judged (unit u rest)) ≡ cond (wellFormed (trim (said u))) (did (length (bytes u)) (acts r u)) (fault (faultOf (trim (said u))))
 judged-reads r u rest = test (wellFormed (trim (said u))) (λ e. simp e) (λ e. simp e)
-
--- the size with its LF, and without one
-size-with : (n m : ℕ) → n < m → suc n ≡ sizeBy n m
-size-with n m h = simp (lt-ltb n m h)
-
-size-without : (n m : ℕ) → m ≤ n → n ≡ sizeBy n m
-size-without n m h = simp (le-ltb n m h)
 
 -- a line t, and what follows it with its LF
 line-by : (r : LabelPosition) (t q : List ℕ) → 0 < length (t ++ q) → reading epl r (judged (lineBy t q)) ≡ lineTurn (sizeBy (length t) (length (t ++ q))) r t

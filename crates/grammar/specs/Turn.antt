@@ -1,8 +1,7 @@
 -- A line as a reader of one unit answers it.
-use Prim.Native.Nat.{ℕ, suc}
+use Prim.Native.Nat.{ℕ}
 use mathlib.Core.Bool.{cond}
 use mathlib.Core.List.{List}
-use lib.Dec.{ltb}
 use Rattle.text.specs.Blank.{trim}
 use Rattle.elements.specs.declared.LabelElement.{LabelElement}
 use Rattle.elements.specs.declared.LabelPosition.{LabelPosition}
@@ -10,10 +9,6 @@ use Rattle.commands.specs.Line.{readLine}
 use Rattle.whole.specs.Reading.{Reading, fault, did}
 use Rattle.grammar.specs.WellFormed.{wellFormed, faultOf}
 use Rattle.grammar.specs.Epl.{actOf}
-
--- the bytes of a line whose LF stands at n, or has none
-abbrev pub sizeBy : ℕ → ℕ → ℕ
-sizeBy n len = cond (ltb n len) (suc n) n
 
 -- the line t of so many bytes
 abbrev pub lineTurn : ℕ → LabelPosition → List ℕ → Reading LabelPosition LabelElement Unit

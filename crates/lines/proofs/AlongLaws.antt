@@ -1,14 +1,14 @@
 -- A line on its way into a buffer, piece by piece. Assumes nothing.
 use mathlib.Core.Path.{_≡_, refl, sym, ap, _∙_}
-use mathlib.Core.Bool.{true, false, or-false, _&&_}
+use mathlib.Core.Bool.{true, false, or-false}
 use mathlib.Core.Logic.{_⊎_, ⊎-elim}
 use mathlib.Core.List.{List, [], _∷_, _++_}
-use Prim.Native.Nat.{ℕ, _+_, _-_, _<_, _≤_, min}
+use Prim.Native.Nat.{ℕ, _+_, _-_, _<_, _≤_}
 use native.Mathlib.Omega.{arith}
-use lib.Dec.{eqb, ltb}
+use lib.Dec.{eqb}
 use lib.ListN.{length, length-take, length-drop, take, drop}
 use lib.Seq.{drop-drop, take-all, length-take-le}
-use borrow.Author.Tests.{eqb-true, eqb-false, ltb-false}
+use borrow.Author.Tests.{eqb-true}
 use Rattle.text.specs.Blank.{dropWhile, front, dropEnd, isAsciiBlank}
 use Rattle.text.specs.Fields.{indexOf}
 use Rattle.text.specs.Wrote.{Wrote, Put}
@@ -21,7 +21,7 @@ use Rattle.graphics.specs.Block.{isLineBlank}
 use Rattle.grammar.specs.Units.{notLf}
 use Rattle.grammar.proofs.LineTurnLaws.{front-index}
 use Rattle.lines.proofs.EndedLaws.{nothing}
-use Rattle.lines.proofs.PieceLaws.{front-le, kept-le, piece-some, piece-rest, piece-none, front-take, front-behind, front-part}
+use Rattle.lines.proofs.PieceLaws.{kept-le, piece-some, piece-rest, piece-none, front-take, front-behind, front-part}
 
 -- the line of t is written up to done, blanks go on from there to seen, and no LF stands before that
 pub record Along (t out₀ : List ℕ) (at : ℕ) (out : List ℕ) (done seen to : ℕ) : Type 0 where

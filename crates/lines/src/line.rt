@@ -9,6 +9,7 @@ ghost use Rattle.grammar.specs.Units.{notLf};
 ghost use Rattle.lines.specs.Lines.{ended, Keeps, PutsLine, PutsPieces};
 use bytes::put::put_bytes;
 use bytes::scan::find;
+use bytes::scan::line_size;
 use bytes::scan::near;
 use graphics::gw_span::trim_line_start;
 use numbers::blank::first;
@@ -18,13 +19,13 @@ use numbers::blank::trim_ascii_start;
 // So many bytes are looked through before they are written.
 const PIECE: usize = 4096;
 
-// A line that was written: its bytes without its LF, and the place behind what was written.
+// A line that was written: its bytes, its LF among them, and the place behind what was written.
 pub struct Line {
     pub size: usize,
     pub to: usize,
 }
 
-// A line that was looked through: its bytes without its LF, and how many are left without the blanks at its ends.
+// A line that was looked through: its bytes, its LF among them, and how many are left without it and the blanks at the ends.
 pub struct Kept {
     pub size: usize,
     pub len: usize,
@@ -37,7 +38,7 @@ pub fn line_len(rest: &[u8]) -> Kept
     let n = find(rest, 10);
     let kept = trim_ascii_end(trim_ascii_start(first(rest, n)));
     Kept {
-        size: n,
+        size: line_size(n, rest.len()),
         len: kept.len(),
     }
 }
@@ -95,7 +96,7 @@ fn put_long(rest: &[u8], out: &mut [u8], at: usize) -> Line
     let started = trim_line_start(rest);
     let from = rest.len() - started.len();
     let l = put_pieces(started, out, at);
-    let size = from + l.size;
+    let size = line_size(from + l.size, rest.len());
     let end = l.to;
     if end <= at {
         return Line { size, to: at };
@@ -114,5 +115,5 @@ pub fn put_line(rest: &[u8], out: &mut [u8], at: usize) -> Line
         return put_long(rest, out, at);
     }
     let to = put_ended(trim_ascii_end(trim_ascii_start(first(rest, n))), out, at);
-    Line { size: n, to }
+    Line { size: n + 1, to }
 }

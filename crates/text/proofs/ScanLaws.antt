@@ -8,9 +8,9 @@ use Prim.Native.Nat.{ℕ, zero, suc, _+_, _-_, _≤_, _<_, min}
 use native.Mathlib.Nat.{eq-zero-or-pos}
 use native.Mathlib.Omega.{arith}
 use lib.ListN.{length, getD}
-use borrow.Author.Tests.{eq-eqb, ne-eqb}
+use borrow.Author.Tests.{eq-eqb, ne-eqb, lt-ltb, le-ltb}
 use Rattle.text.specs.Fields.{indexOf, Found}
-use Rattle.text.specs.Scan.{None, Passed, First}
+use Rattle.text.specs.Scan.{None, Passed, First, sizeBy}
 
 pub none-empty : {a : List ℕ} {b lo hi : ℕ} → hi ≤ lo → None a b lo hi
 none-empty h = record { none = λ k p q e. omega arith }
@@ -54,3 +54,10 @@ index-is b (x ∷ a) (suc r) h n f = simp (ne-eqb x b (n 0 (omega arith))) (ap s
 
 pub first-found : {a : List ℕ} {b r : ℕ} → First a b 0 (length a) r → Found b a r
 first-found {a} {b} {r} f = record { is = index-is b a r (f .high) (λ k l. f .before .none k (omega arith) l) (f .found); fits = f .high }
+
+-- ---- a line's bytes, with its LF and without one
+pub size-with : (n m : ℕ) → n < m → suc n ≡ sizeBy n m
+size-with n m h = simp (lt-ltb n m h)
+
+pub size-without : (n m : ℕ) → m ≤ n → n ≡ sizeBy n m
+size-without n m h = simp (le-ltb n m h)

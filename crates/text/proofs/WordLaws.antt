@@ -11,7 +11,7 @@ use native.Mathlib.Omega.{arith}
 use lib.Bits.{bitAnd, bitOr, bitXor, and-block, or-block, xor-block, and-le-l, and-le-r, or-lt, xor-lt, xor-self, xor-add-and, block-half, block-odd, shifted-half, shifted-even}
 use lib.Count.{trailingZeros, under}
 use lib.Dec.{eqb}
-use lib.ListN.{length, getD}
+use lib.ListN.{getD}
 use borrow.Author.Tests.{eq-eqb, ne-eqb, eqb-true}
 use Rattle.text.specs.Scan.{None, First}
 use Rattle.text.specs.Word.{wordAt, Word, marksAt}

@@ -1,7 +1,9 @@
 -- A search by places.
 use mathlib.Core.Path.{_≡_}
+use mathlib.Core.Bool.{cond}
 use mathlib.Core.List.{List}
-use Prim.Native.Nat.{ℕ, _≤_, _<_}
+use Prim.Native.Nat.{ℕ, suc, _≤_, _<_}
+use lib.Dec.{ltb}
 use lib.ListN.{length, getD}
 
 -- no b from lo up to, not including, hi
@@ -21,7 +23,12 @@ pub record First (a : List ℕ) (b lo hi r : ℕ) : Type 0 where
   pub before : None a b lo r
   pub found : r < hi → getD a r 0 ≡ b
 
--- below 64 r is the first b of a
+-- below 64 r is the first b of a, and stands in it
 pub record Near (a : List ℕ) (b r : ℕ) : Type 0 where
   pub low : r ≤ 64
+  pub inside : r < 64 → r < length a
   pub found : r < 64 → First a b 0 (length a) r
+
+-- of so many bytes, those of a line whose LF stands at n, or that has none: its LF is among them
+abbrev pub sizeBy : ℕ → ℕ → ℕ
+sizeBy n len = cond (ltb n len) (suc n) n

@@ -4,11 +4,13 @@ ghost use Prim.Native.Nat.{_+_, _<_};
 ghost use lib.ListN.{length};
 ghost use Rattle.whole.specs.Reading.{did, readingOf, moved};
 ghost use Rattle.grammar.specs.Epl.{epl, actOf};
-ghost use Rattle.grammar.specs.Turn.{sizeBy, lineTurn};
+ghost use Rattle.grammar.specs.Turn.{lineTurn};
 ghost use Rattle.text.specs.Fields.{indexOf};
+ghost use Rattle.text.specs.Scan.{sizeBy};
 ghost use lib.ListN.{take};
 ghost use Rattle.units.specs.Unit.{unitOf};
 use bytes::scan::find;
+use bytes::scan::line_size;
 use commands::line::read_line;
 use elements::LabelElement;
 use elements::LabelPosition;
@@ -26,13 +28,6 @@ pub enum UnitReading {
     Cleared(usize),
     Element(LabelElement, usize),
     Print(usize),
-}
-
-// The bytes of a line whose LF stands at n, or has none.
-fn line_size(n: usize, len: usize) -> usize
-    ensures { λ r. ⌜ r ≡ sizeBy n len ⌝ }
-{
-    if n < len { n + 1 } else { n }
 }
 
 // A line of so many bytes, by what it says.

@@ -17,7 +17,7 @@ abbrev μ-loop : tie.MeasureT-loop
 μ-loop a b i₀ i = 64 - i
 
 returns : tie.Need-returns Inv-loop μ-loop
-returns c = record { low = omega arith; found = λ h. absurd (omega arith) }
+returns c = record { low = omega arith; inside = λ h. absurd (omega arith); found = λ h. absurd (omega arith) }
 
 loop-holds : tie.Need-loop-holds Inv-loop μ-loop
 loop-holds c = (omega arith, none-empty (omega arith))
@@ -43,6 +43,7 @@ returns-2 c =
     let f = mark-first (s .a .now) (s .b) (l .loop .i) (c .before .marks .ensures) in
     record {
       low = omega arith;
+      inside = λ p. omega arith;
       found = λ p. record { low = omega arith; high = omega arith; before = none-join (l .loop .inv .1) (f .before); found = λ q. f .found (omega arith) };
     }
 
@@ -59,7 +60,7 @@ loop-again c =
     (omega arith, none-join (l .loop .inv .1) (mark-none (s .a .now) (s .b) (l .loop .i) (c .before .marks .ensures) (c .if2 .left)))
 
 returns-3 : tie.Need-returns-3 Inv-loop μ-loop
-returns-3 c = record { low = omega arith; found = λ h. absurd (omega arith) }
+returns-3 c = record { low = omega arith; inside = λ h. absurd (omega arith); found = λ h. absurd (omega arith) }
 
 pub near-spec : {M : Type 1} → statement M
 near-spec =

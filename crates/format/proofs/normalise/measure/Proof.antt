@@ -5,12 +5,12 @@ use mathlib.Core.Logic.{⊎-elim}
 use mathlib.Core.List.{List}
 use Prim.Native.Nat.{ℕ, _+_, _-_, _*_, _<_, _≤_}
 use native.Mathlib.Omega.{arith}
-use lib.ListN.{length, length-append, drop}
+use lib.ListN.{length, drop}
 use Rattle.text.specs.Blank.{front, trimAscii}
 use Rattle.grammar.specs.Units.{notLf}
 use Rattle.grammar.specs.Normal.{normalised}
 use Rattle.lines.specs.Lines.{ended}
-use Rattle.format.proofs.NormaliseLaws.{here, normalised-end, block-in, block-counts, line-in, left-le, ended-some-left, ended-none-left, line-turn, last-turn}
+use Rattle.format.proofs.NormaliseLaws.{here, normalised-end, block-in, block-counts, line-in, line-some, left-le, ended-some-left, ended-none-left, line-counts}
 use borrow.Author.Needs.{needs}
 use Rattle.format.proofs.normalise.measure.Statement.{statement}
 use Rattle.format.proofs.normalise.measure.Tie as tie
@@ -61,11 +61,11 @@ module _ (e : tie.After-line-len Inv-loop μ-loop) where
   none-left : m ≤ 0 → length (ended part) ≡ 0
   none-left = ended-none-left (src first) (place first) (first .block-len .result) (in-src first) (first .block-len .ensures) (e .before .if1 .left) k (e .line-len .ensures .size) m (e .line-len .ensures .len)
 
-  counts-lf : place first + k < length (src first) → length (normalised (drop (place first) (src first))) ≡ length (ended part) + length (normalised (drop (place first + k + 1) (src first)))
-  counts-lf h = omega (arith, ap length (line-turn (src first) (place first) (first .block-len .result) (in-src first) (first .block-len .ensures) (e .before .if1 .left) k (e .line-len .ensures .size) h), length-append (ended part) (normalised (drop (place first + k + 1) (src first))))
+  moves : 0 < k
+  moves = line-some (src first) (place first) (first .block-len .result) (in-src first) (first .block-len .ensures) (e .before .if1 .left) k (e .line-len .ensures .size)
 
-  counts-last : length (src first) ≤ place first + k → length (normalised (drop (place first) (src first))) ≡ length (ended part) + length (normalised (drop (place first + k) (src first)))
-  counts-last h = omega (arith, ap length (last-turn (src first) (place first) (first .block-len .result) (in-src first) (first .block-len .ensures) (e .before .if1 .left) k (e .line-len .ensures .size) h), length-append (ended part) (normalised (drop (place first + k) (src first))))
+  counts : length (normalised (drop (place first) (src first))) ≡ length (ended part) + length (normalised (drop (place first + k) (src first)))
+  counts = line-counts (src first) (place first) (first .block-len .result) (in-src first) (first .block-len .ensures) (e .before .if1 .left) k (e .line-len .ensures .size)
 
 loop-holds : tie.Need-loop-holds Inv-loop μ-loop
 loop-holds c = search needs
@@ -111,30 +111,16 @@ add-total-4 c = let e = c .before .before .before in omega (arith, left-fits e, 
 add-at-2 : tie.Need-add-at-2 Inv-loop μ-loop
 add-at-2 c = let e = c .before .before .before in omega (arith, line-fits e)
 
-add-at-3 : tie.Need-add-at-3 Inv-loop μ-loop
-add-at-3 c = omega (arith, c .if3 .taken)
-
 loop-less-2 : tie.Need-loop-less-2 Inv-loop μ-loop
-loop-less-2 c = omega (arith, c .if3 .taken)
+loop-less-2 c = let e = c .before .before .before in omega (arith, moves e, line-fits e)
 
 loop-again-2 : tie.Need-loop-again-2 Inv-loop μ-loop
 loop-again-2 c =
-    let e = c .before .before .before .before in
+    let e = c .before .before .before in
     ⊎-elim
-    (λ w. (omega (arith, c .if3 .taken), omega (arith, w .0 .taken, w .1, left-fits e), omega (arith, w .1, some-left e (w .0 .taken), counts-lf e (c .if3 .taken))))
-    (λ w. (omega (arith, c .if3 .taken), omega (arith, w .1), omega (arith, w .1, none-left e (w .0 .left), counts-lf e (c .if3 .taken))))
-    (c .before .before .if2 .came)
-
-loop-less-3 : tie.Need-loop-less-3 Inv-loop μ-loop
-loop-less-3 c = let e = c .before .before .before .before in omega (arith, c .if3 .left, in-src (first e))
-
-loop-again-3 : tie.Need-loop-again-3 Inv-loop μ-loop
-loop-again-3 c =
-    let e = c .before .before .before .before in
-    ⊎-elim
-    (λ w. (line-fits e, omega (arith, w .0 .taken, w .1, left-fits e), omega (arith, w .1, some-left e (w .0 .taken), counts-last e (c .if3 .left))))
-    (λ w. (line-fits e, omega (arith, w .1), omega (arith, w .1, none-left e (w .0 .left), counts-last e (c .if3 .left))))
-    (c .before .before .if2 .came)
+    (λ w. (line-fits e, omega (arith, w .1, left-fits e, moves e), omega (arith, w .1, some-left e (w .0 .taken), counts e)))
+    (λ w. (line-fits e, omega (arith, w .1), omega (arith, w .1, none-left e (w .0 .left), counts e)))
+    (c .before .if2 .came)
 
 returns : tie.Need-returns Inv-loop μ-loop
 returns c = let l = c .before in omega (arith, ap length (normalised-end (l .before .before .args .input .now) (l .loop .at) (c .loop-test .left)))
@@ -159,9 +145,6 @@ measure-spec =
     add-total-3
     add-total-4
     add-at-2
-    add-at-3
     loop-less-2
     loop-again-2
-    loop-less-3
-    loop-again-3
     returns)

@@ -8,7 +8,7 @@ use lib.ListN.{length, drop}
 use Rattle.text.proofs.Toward.{Toward, begin, room, put, finish}
 use Rattle.grammar.specs.Normal.{normalised}
 use Rattle.lines.specs.Lines.{ended}
-use Rattle.format.proofs.NormaliseLaws.{normalised-end, block-turn, block-in, line-in, line-turn, last-turn, line-le}
+use Rattle.format.proofs.NormaliseLaws.{normalised-end, block-turn, block-in, line-in, line-some, line-turn, line-counts}
 use borrow.Author.Needs.{needs}
 use Rattle.format.proofs.normalise.put_chunks.Statement.{statement}
 use Rattle.format.proofs.normalise.put_chunks.Tie as tie
@@ -84,41 +84,33 @@ put-line-requires c κs =
     let e = c .before in
     let d = e .before in
     let t = turn d .loop .inv .1 in
-    omega (arith, line-le (src d) (place d) (d .block-len .result) (in-src d) (d .block-len .ensures) (e .if1 .left) _ refl, t .ends, t .long, turn d .before .before .before .pre)
+    omega (arith, line-counts (src d) (place d) (d .block-len .result) (in-src d) (d .block-len .ensures) (e .if1 .left) _ refl, t .ends, t .long, turn d .before .before .before .pre)
+
+-- a line was put: its size
+module _ (p : tie.After-put-line Inv-loop μ-loop) where
+  abbrev first : tie.After-block-len Inv-loop μ-loop
+  first = p .before .before .before
+
+  abbrev k : ℕ
+  k = p .put-line .result .size
+
+  line-fits : place first + k ≤ length (src first)
+  line-fits = line-in (src first) (place first) (first .block-len .result) (in-src first) (first .block-len .ensures) (p .before .before .if1 .left) k (p .put-line .ensures .size)
+
+  moves : 0 < k
+  moves = line-some (src first) (place first) (first .block-len .result) (in-src first) (first .block-len .ensures) (p .before .before .if1 .left) k (p .put-line .ensures .size)
 
 add-at-2 : tie.Need-add-at-2 Inv-loop μ-loop
-add-at-2 c =
-    let p = c .before .before .before in
-    let e = p .before .before in
-    let d = e .before in
-    omega (arith, line-in (src d) (place d) (d .block-len .result) (in-src d) (d .block-len .ensures) (e .if1 .left) _ (p .put-line .ensures .size))
-
-add-at-3 : tie.Need-add-at-3 Inv-loop μ-loop
-add-at-3 c = omega (arith, c .if2 .taken)
+add-at-2 c = omega (arith, line-fits (c .before .before .before))
 
 loop-less-2 : tie.Need-loop-less-2 Inv-loop μ-loop
-loop-less-2 c = omega (arith, c .if2 .taken)
+loop-less-2 c = let p = c .before .before .before in omega (arith, moves p, line-fits p)
 
 loop-again-2 : tie.Need-loop-again-2 Inv-loop μ-loop
 loop-again-2 c =
-    let p = c .before .before .before .before in
-    let e = p .before .before in
-    let d = e .before in
-    let k = p .put-line .result .size in
-    (omega (arith, c .if2 .taken), put (turn d .loop .inv .1) (normalised (drop (place d + k + 1) (src d))) (line-turn (src d) (place d) (d .block-len .result) (in-src d) (d .block-len .ensures) (e .if1 .left) k (p .put-line .ensures .size) (c .if2 .taken)) (p .put-line .ensures .put))
-
-loop-less-3 : tie.Need-loop-less-3 Inv-loop μ-loop
-loop-less-3 c =
-    let d = c .before .before .before .before .before .before .before in
-    omega (arith, c .if2 .left, d .before .before .loop-test .taken)
-
-loop-again-3 : tie.Need-loop-again-3 Inv-loop μ-loop
-loop-again-3 c =
-    let p = c .before .before .before .before in
-    let e = p .before .before in
-    let d = e .before in
-    let k = p .put-line .result .size in
-    (line-in (src d) (place d) (d .block-len .result) (in-src d) (d .block-len .ensures) (e .if1 .left) k (p .put-line .ensures .size), put (turn d .loop .inv .1) (normalised (drop (place d + k) (src d))) (last-turn (src d) (place d) (d .block-len .result) (in-src d) (d .block-len .ensures) (e .if1 .left) k (p .put-line .ensures .size) (c .if2 .left)) (p .put-line .ensures .put))
+    let p = c .before .before .before in
+    let d = first p in
+    (line-fits p, put (turn d .loop .inv .1) (normalised (drop (place d + k p) (src d))) (line-turn (src d) (place d) (d .block-len .result) (in-src d) (d .block-len .ensures) (p .before .before .if1 .left) (k p) (p .put-line .ensures .size)) (p .put-line .ensures .put))
 
 same-length : tie.Need-same-length Inv-loop μ-loop
 same-length c = c .before .loop .inv .1 .long
@@ -144,10 +136,7 @@ put-chunks-spec =
     loop-again
     put-line-requires
     add-at-2
-    add-at-3
     loop-less-2
     loop-again-2
-    loop-less-3
-    loop-again-3
     same-length
     returns)

@@ -3,6 +3,7 @@ use mathlib.Core.Path.{sym, ap, _∙_}
 use Prim.Native.Nat.{ℕ}
 use lib.ListN.{length, take}
 use Rattle.text.specs.Blank.{dropEnd, isAsciiBlank, trimAscii}
+use Rattle.text.specs.Scan.{sizeBy}
 use Rattle.grammar.proofs.LineTurnLaws.{front-index}
 use Rattle.lines.proofs.AlongLaws.{index-length}
 use borrow.Author.Needs.{needs}
@@ -21,18 +22,22 @@ trim-ascii-start-requires c κs = search needs
 trim-ascii-end-requires : tie.Need-trim-ascii-end-requires
 trim-ascii-end-requires c κs = search needs
 
+line-size-requires : tie.Need-line-size-requires
+line-size-requires c κs = search needs
+
 returns : tie.Need-returns
 returns c =
-    let f = c .before .before in
+    let e = c .before in
+    let f = e .before .before in
     let n = f .before in
     let s = n .before .before .args .rest .now in
     record {
-      size = n .find .ensures .is ∙ sym (index-length s);
+      size = c .line-size .ensures ∙ ap (λ (k : ℕ). sizeBy k (length s)) (n .find .ensures .is ∙ sym (index-length s));
       len = ap length (
-          c .trim-ascii-end .ensures ∙ ap (dropEnd isAsciiBlank) (c .before .trim-ascii-start .ensures)
+          e .trim-ascii-end .ensures ∙ ap (dropEnd isAsciiBlank) (e .before .trim-ascii-start .ensures)
           ∙ ap trimAscii (f .first .ensures ∙ ap (λ (k : ℕ). take k s) (n .find .ensures .is) ∙ sym (front-index s))
           );
     }
 
 pub line-len-spec : {M : Type 1} → statement M
-line-len-spec = tie.close (tie.spec find-requires first-requires trim-ascii-start-requires trim-ascii-end-requires returns)
+line-len-spec = tie.close (tie.spec find-requires first-requires trim-ascii-start-requires trim-ascii-end-requires line-size-requires returns)

@@ -2,10 +2,12 @@
 use mathlib.Core.Path.{_≡_, sym, ap, _∙_}
 use mathlib.Core.List.{List}
 use Prim.Native.Nat.{ℕ}
+use native.Mathlib.Numerals.{add-one}
 use native.Mathlib.Omega.{arith}
 use lib.ListN.{length}
 use Rattle.text.specs.Blank.{front, dropEnd, isAsciiBlank, trimAscii}
-use Rattle.text.proofs.ScanLaws.{first-found}
+use Rattle.text.specs.Scan.{sizeBy}
+use Rattle.text.proofs.ScanLaws.{first-found, size-with}
 use Rattle.grammar.specs.Units.{notLf}
 use Rattle.lines.specs.Lines.{ended}
 use Rattle.lines.proofs.AlongLaws.{index-length, line-is}
@@ -50,6 +52,9 @@ put-ended-requires c κs =
     let t = c .before in
     omega (arith, t .before .before .before .before .before .before .before .pre, ap (λ (l : List ℕ). length (ended l)) (kept t))
 
+add-t14 : tie.Need-add-t14
+add-t14 c = search needs
+
 same-length-2 : tie.Need-same-length-2
 same-length-2 c = search needs
 
@@ -57,7 +62,13 @@ returns-2 : tie.Need-returns-2
 returns-2 c =
     let p = c .before .before in
     let t = p .before .before in
-    record { put = rw (sym (kept t)) (p .put-ended .ensures); size = size (t .before .before .before) }
+    let e = t .before .before .before in
+    let n = e .before .near .result in
+    let s = e .before .before .before .before .args .rest .now in
+    record {
+      put = rw (sym (kept t)) (p .put-ended .ensures);
+      size = add-one n ∙ size-with n (length s) (e .before .near .ensures .inside (omega arith)) ∙ ap (λ (k : ℕ). sizeBy k (length s)) (size e);
+    }
 
 pub put-line-spec : {M : Type 1} → statement M
 put-line-spec =
@@ -71,5 +82,6 @@ put-line-spec =
     trim-ascii-start-requires
     trim-ascii-end-requires
     put-ended-requires
+    add-t14
     same-length-2
     returns-2)

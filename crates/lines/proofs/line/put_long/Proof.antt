@@ -5,14 +5,15 @@ use Prim.Native.Nat.{ℕ, _+_, _-_}
 use native.Mathlib.Omega.{arith}
 use lib.ListN.{length, length-append}
 use Rattle.text.specs.Blank.{front, dropEnd, isAsciiBlank, trimAscii}
+use Rattle.text.specs.Scan.{sizeBy}
 use Rattle.text.specs.Wrote.{Put}
 use Rattle.grammar.specs.Units.{notLf}
 use Rattle.text.proofs.DropLaws.{drop-while-le}
 use Rattle.graphics.specs.Block.{isLineBlank}
+use Rattle.lines.specs.Lines.{lineSize}
 use Rattle.lines.proofs.AlongLaws.{started-is, started-size}
 use Rattle.lines.proofs.PieceLaws.{front-le}
-use Rattle.lines.proofs.EndedLaws.{ended-some}
-use Rattle.lines.proofs.EndedLaws.{ended-le, put-empty, put-ended-at}
+use Rattle.lines.proofs.EndedLaws.{ended-some, ended-le, put-empty, put-ended-at}
 use borrow.Author.Needs.{needs}
 use Rattle.lines.proofs.line.put_long.Statement.{statement}
 use Rattle.lines.proofs.line.put_long.Tie as tie
@@ -21,7 +22,7 @@ use Rattle.lines.proofs.line.put_long.Tie as tie
 kept : (c : tie.After-trim-line-start) → trimAscii (front notLf (c .before .before .before .args .rest .now)) ≡ dropEnd isAsciiBlank (front notLf (c .trim-line-start .result .now))
 kept c = ap (dropEnd isAsciiBlank) (started-is (c .before .before .before .args .rest .now) ∙ ap (front notLf) (sym (c .trim-line-start .ensures)))
 
-size : (c : tie.After-put-pieces) → c .put-pieces .result .size + (length (c .before .before .before .before .before .args .rest .now) - length (c .before .before .trim-line-start .result .now)) ≡ length (front notLf (c .before .before .before .before .before .args .rest .now))
+size : (c : tie.After-put-pieces) → length (c .before .before .before .before .before .args .rest .now) - length (c .before .before .trim-line-start .result .now) + c .put-pieces .result .size ≡ length (front notLf (c .before .before .before .before .before .args .rest .now))
 size c =
     let t = c .before .before in
     let s = t .before .before .before .args .rest .now in
@@ -43,29 +44,42 @@ put-pieces-requires c κs =
     let a = t .before .before .before in
     omega (arith, a .pre, ap length (kept t), ended-le (trimAscii (front notLf (a .args .rest .now))))
 
-add-size : tie.Need-add-size
-add-size c =
+add-line-size : tie.Need-add-line-size
+add-line-size c =
     let p = c .before .before .before in
     omega (arith, size p, front-le notLf (p .before .before .before .before .before .args .rest .now))
+
+line-size-requires : tie.Need-line-size-requires
+line-size-requires c κs = search needs
+
+-- the line's size with its LF, and the pieces before it
+abbrev pieces : tie.After-line-size → tie.After-put-pieces
+pieces c = c .before .before .before .before
+
+sized : (c : tie.After-line-size) → c .line-size .result ≡ lineSize (pieces c .before .before .before .before .before .args .rest .now)
+sized c =
+    let s = pieces c .before .before .before .before .before .args .rest .now in
+    c .line-size .ensures ∙ ap (λ (n : ℕ). sizeBy n (length s)) (size (pieces c))
 
 same-length : tie.Need-same-length
 same-length c = search needs
 
 returns : tie.Need-returns
 returns c =
-    let p = c .before .before .before .before in
-    record { put = put-empty (trimAscii (front notLf (p .before .before .before .before .before .args .rest .now))) (put p) (c .if1 .taken); size = omega (arith, size p) }
+    let z = c .before in
+    let p = pieces z in
+    record { put = put-empty (trimAscii (front notLf (p .before .before .before .before .before .args .rest .now))) (put p) (c .if1 .taken); size = sized z }
 
 slice-write-out : tie.Need-slice-write-out
 slice-write-out c =
-    let p = c .before .before .before .before in
+    let p = pieces (c .before) in
     let a = p .before .before .before .before .before in
     let part = trimAscii (front notLf (a .args .rest .now)) in
     omega (arith, a .pre, put p .next, put p .wrote .long, ap length (ended-some part (omega (arith, put p .next, c .if1 .left))), length-append part (10 ∷ []), c .if1 .left)
 
 add-t9 : tie.Need-add-t9
 add-t9 c =
-    let p = c .before .before .before .before in
+    let p = pieces (c .before) in
     let a = p .before .before .before .before .before in
     let part = trimAscii (front notLf (a .args .rest .now)) in
     omega (arith, a .pre, put p .next, ap length (ended-some part (omega (arith, put p .next, c .if1 .left))), length-append part (10 ∷ []), c .if1 .left)
@@ -75,8 +89,9 @@ same-length-2 c = search needs
 
 returns-2 : tie.Need-returns-2
 returns-2 c =
-    let p = c .before .before .before .before in
-    record { put = put-ended-at (trimAscii (front notLf (p .before .before .before .before .before .args .rest .now))) (put p) (c .if1 .left); size = omega (arith, size p) }
+    let z = c .before in
+    let p = pieces z in
+    record { put = put-ended-at (trimAscii (front notLf (p .before .before .before .before .before .args .rest .now))) (put p) (c .if1 .left); size = sized z }
 
 pub put-long-spec : {M : Type 1} → statement M
 put-long-spec =
@@ -85,7 +100,8 @@ put-long-spec =
     trim-line-start-requires
     sub-from
     put-pieces-requires
-    add-size
+    add-line-size
+    line-size-requires
     same-length
     returns
     slice-write-out

@@ -1,9 +1,9 @@
--- `units::unit::line_size` meets its contract. Assumes nothing.
+-- `bytes::scan::line_size` meets its contract. Assumes nothing.
 use native.Mathlib.Numerals.{add-one}
 use borrow.Author.Tests.{lt-ltb, le-ltb}
 use borrow.Author.Needs.{needs}
-use Rattle.units.proofs.unit.line_size.Statement.{statement}
-use Rattle.units.proofs.unit.line_size.Tie as tie
+use Rattle.bytes.proofs.scan.line_size.Statement.{statement}
+use Rattle.bytes.proofs.scan.line_size.Tie as tie
 
 add-result : tie.Need-add-result
 add-result c = search needs
