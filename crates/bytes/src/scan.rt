@@ -6,6 +6,9 @@ ghost use Rattle.text.specs.Fields.{Found};
 ghost use Rattle.text.specs.Scan.{Passed, First, Near, sizeBy};
 use crate::word::marks;
 
+// So many bytes are near. Most lines are shorter.
+pub const NEAR: usize = 128;
+
 // The first b among the sixty-four bytes from `from` on, counted from there, or 64: a minimum over all of them.
 fn window(a: &[u8], from: usize, b: u8) -> u8
     requires { ⌜ from + 64 ≤ length (now a) ⌝ }
@@ -59,22 +62,22 @@ fn by_one(a: &[u8], from: usize, b: u8) -> usize
     i
 }
 
-// The first b among the first sixty-four bytes, eight at a time, or 64: what stands near is known sooner than by a window. 64 too where there are fewer bytes.
+// The first b among the first NEAR bytes, eight at a time, or NEAR: what stands near is known sooner than by a window. NEAR too where there are fewer bytes.
 pub fn near(a: &[u8], b: u8) -> usize
     ensures { λ r. ⌜ Near (now (a .entry)) b r ⌝ }
 {
-    if a.len() < 64 {
-        return 64;
+    if a.len() < NEAR {
+        return NEAR;
     }
     let mut i = 0;
-    while i <= 56 {
+    while i <= NEAR - 8 {
         let m = marks(a, i, b);
         if m != 0 {
             return i + ((u64::trailing_zeros(m) / 8) as usize);
         }
         i += 8;
     }
-    64
+    NEAR
 }
 
 // The first b, by places.

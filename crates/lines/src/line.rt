@@ -8,6 +8,7 @@ ghost use Rattle.text.specs.Wrote.{Put};
 ghost use Rattle.grammar.specs.Units.{notLf};
 ghost use Rattle.lines.specs.Lines.{ended, Keeps, PutsLine, PutsPieces};
 use bytes::put::put_bytes;
+use bytes::scan::NEAR;
 use bytes::scan::find;
 use bytes::scan::line_size;
 use bytes::scan::near;
@@ -111,7 +112,7 @@ pub fn put_line(rest: &[u8], out: &mut [u8], at: usize) -> Line
     ensures { λ r. ⌜ PutsLine (now (out .exit)) (now (out .entry)) (now (rest .entry)) at r ⌝ }
 {
     let n = near(rest, 10);
-    if 64 <= n {
+    if NEAR <= n {
         return put_long(rest, out, at);
     }
     let to = put_ended(trim_ascii_end(trim_ascii_start(first(rest, n))), out, at);

@@ -1,5 +1,5 @@
--- Laws of bytes side by side in one number: eight are told apart at once from a byte b (`swar-marks`), and the zeros below the lowest mark tell the first b
--- (`zeros-lane`, `lane-first`). Every operation works on each byte apart, so each law is an induction on how many there are.
+-- Laws of bytes side by side in one number: those that are b are marked in all of them at once (`word-marks`), and the zeros below the lowest mark tell the first b
+-- (`mark-first`). Every operation works on each byte apart, so each law is an induction on how many there are.
 -- Assumes nothing.
 use mathlib.Core.Path.{_≡_, refl, sym, ap, _∙_}
 use mathlib.Core.Bool.{Bool, true, false, cond, _&&_, true≢false}
@@ -24,8 +24,8 @@ rep zero c = zero
 rep (suc n) c = rep n c * 256 + c
 
 -- in each of n bytes 80 where x has 0, and 0 where it has anything else
-unfoldable pub swar : ℕ → ℕ → ℕ
-swar n x = bitXor (bitAnd (bitOr (bitAnd x (rep n 127) + rep n 127) x) (rep n 128)) (rep n 128)
+unfoldable pub zeroMarks : ℕ → ℕ → ℕ
+zeroMarks n x = bitXor (bitAnd (bitOr (bitAnd x (rep n 127) + rep n 127) x) (rep n 128)) (rep n 128)
 
 -- the same of one byte
 abbrev one : ℕ → ℕ
@@ -49,9 +49,9 @@ one-is y h = eqb-true (one y) (cond (eqb y 0) 128 0) (every-at (λ y. eqb (one y
 add-block : (p q r s : ℕ) → (p * 256 + q) + (r * 256 + s) ≡ (p + r) * 256 + (q + s)
 add-block p q r s = omega arith
 
-swar-step : (n x y : ℕ) → y < 256 → swar (suc n) (x * 256 + y) ≡ swar n x * 256 + one y
-unfolding swar rep
-swar-step n x y h =
+zero-marks-step : (n x y : ℕ) → y < 256 → zeroMarks (suc n) (x * 256 + y) ≡ zeroMarks n x * 256 + one y
+unfolding zeroMarks rep
+zero-marks-step n x y h =
     let u = bitAnd x (rep n 127) in
     let v = bitAnd y 127 in
     let v≤ : v ≤ 127 = and-le-r y 127 in
@@ -75,22 +75,22 @@ xor-zero x b =
     ∙ sym e)
 
 module _ (a : List ℕ) (b : ℕ) (l : b < 256) where
-  pub swar-marks : (n i : ℕ) → ((k : ℕ) → i ≤ k → k < i + n → getD a k 0 < 256) → swar n (bitXor (wordAt n a i) (rep n b)) ≡ marksAt n a b i
-  unfolding wordAt marksAt rep swar
-  swar-marks zero i h = refl
-  swar-marks (suc n) i h =
+  zero-marks-word : (n i : ℕ) → ((k : ℕ) → i ≤ k → k < i + n → getD a k 0 < 256) → zeroMarks n (bitXor (wordAt n a i) (rep n b)) ≡ marksAt n a b i
+  unfolding wordAt marksAt rep zeroMarks
+  zero-marks-word zero i h = refl
+  zero-marks-word (suc n) i h =
       let c : getD a i 0 < 256 = h i (omega arith) (omega arith) in
       let x : bitXor (getD a i 0) b < 256 = xor-lt 8 (getD a i 0) b c l in
-      ap (swar (suc n)) (xor-block 8 (wordAt n a (i + 1)) (rep n b) (getD a i 0) b c l)
-      ∙ swar-step n (bitXor (wordAt n a (i + 1)) (rep n b)) (bitXor (getD a i 0) b) x
-      ∙ (rw (swar-marks n (i + 1) (λ k p q. h k (omega arith) (omega arith)), one-is (bitXor (getD a i 0) b) x, xor-zero (getD a i 0) b) refl)
+      ap (zeroMarks (suc n)) (xor-block 8 (wordAt n a (i + 1)) (rep n b) (getD a i 0) b c l)
+      ∙ zero-marks-step n (bitXor (wordAt n a (i + 1)) (rep n b)) (bitXor (getD a i 0) b) x
+      ∙ (rw (zero-marks-word n (i + 1) (λ k p q. h k (omega arith) (omega arith)), one-is (bitXor (getD a i 0) b) x, xor-zero (getD a i 0) b) refl)
 
 -- the same of eight bytes, and of b eight times by one product
-pub word-marks : {a : List ℕ} {b i w v : ℕ} → Word 8 a i w → v ≡ b → v < 256 → swar 8 (bitXor w (v * 0x0101010101010101)) ≡ marksAt 8 a b i
+pub word-marks : {a : List ℕ} {b i w v : ℕ} → Word 8 a i w → v ≡ b → v < 256 → zeroMarks 8 (bitXor w (v * 0x0101010101010101)) ≡ marksAt 8 a b i
 unfolding rep
 word-marks {a} {b} {i} {w} {v} h e l =
     let r : v * 0x0101010101010101 ≡ rep 8 b = omega arith in
-    ap (λ (x : ℕ). swar 8 (bitXor w x)) r ∙ ap (λ (x : ℕ). swar 8 (bitXor x (rep 8 b))) (h .is) ∙ swar-marks a b (omega arith) 8 i (h .bytes)
+    ap (λ (x : ℕ). zeroMarks 8 (bitXor w x)) r ∙ ap (λ (x : ℕ). zeroMarks 8 (bitXor x (rep 8 b))) (h .is) ∙ zero-marks-word a b (omega arith) 8 i (h .bytes)
 
 -- each from i up to j is a byte
 abbrev Bytes : List ℕ → ℕ → ℕ → Type 0
@@ -123,7 +123,7 @@ module _ {a : List ℕ} {i r : ℕ} where
         record { is = let p = rw s at (u .is) in let q = v .is in omega arith; bytes = bytes-join a i 4 (i + 8) (v .bytes) (λ k p q. u .bytes k p (omega arith)) }
 
 -- the first b of the n bytes from i on, counted from there, or n
-unfoldable pub lane : ℕ → List ℕ → ℕ → ℕ → ℕ
+unfoldable lane : ℕ → List ℕ → ℕ → ℕ → ℕ
 lane zero a b i = zero
 lane (suc n) a b i = cond (eqb (getD a i 0) b) 0 (suc (lane n a b (i + 1)))
 
@@ -133,7 +133,7 @@ up zero k = k
 up (suc j) k = suc (up j k)
 
 -- eight a byte
-unfoldable pub digits : ℕ → ℕ
+unfoldable digits : ℕ → ℕ
 digits zero = zero
 digits (suc n) = up 8 (digits n)
 
@@ -164,13 +164,13 @@ module _ (a : List ℕ) (b : ℕ) where
   zeros-at n i false h =
       ap (λ (z : ℕ). z / 8) (zeros-low 8 (digits n) (marksAt n a b (i + 1))) ∙ eight-up (trailingZeros (digits n) (marksAt n a b (i + 1))) ∙ ap suc h
 
-  pub zeros-lane : (n i : ℕ) → trailingZeros (digits n) (marksAt n a b i) / 8 ≡ lane n a b i
+  zeros-lane : (n i : ℕ) → trailingZeros (digits n) (marksAt n a b i) / 8 ≡ lane n a b i
   unfolding digits marksAt lane trailingZeros
   zeros-lane zero i = refl
   zeros-lane (suc n) i = zeros-at n i (eqb (getD a i 0) b) (zeros-lane n (i + 1))
 
   -- no mark, no b; and a mark, one of the n
-  pub no-mark : (n i : ℕ) → marksAt n a b i ≡ 0 → lane n a b i ≡ n
+  no-mark : (n i : ℕ) → marksAt n a b i ≡ 0 → lane n a b i ≡ n
   unfolding marksAt lane
   no-mark zero i h = refl
   no-mark (suc n) i h = go (eqb (getD a i 0) b) (no-mark n (i + 1)) h
@@ -179,7 +179,7 @@ module _ (a : List ℕ) (b : ℕ) where
       go true r e = absurd (omega arith)
       go false r e = ap suc (r (omega arith))
 
-  pub some-mark : (n i : ℕ) → (marksAt n a b i ≡ 0 → ⊥) → lane n a b i < n
+  some-mark : (n i : ℕ) → (marksAt n a b i ≡ 0 → ⊥) → lane n a b i < n
   unfolding marksAt lane
   some-mark zero i h = absurd (h refl)
   some-mark (suc n) i h = go (eqb (getD a i 0) b) (some-mark n (i + 1)) h
@@ -191,7 +191,7 @@ module _ (a : List ℕ) (b : ℕ) where
   later : (i k : ℕ) → i + 1 + k ≡ i + suc k
   later i k = omega arith
 
-  pub lane-first : (n i : ℕ) → First a b i (i + n) (i + lane n a b i)
+  lane-first : (n i : ℕ) → First a b i (i + n) (i + lane n a b i)
   unfolding lane
   lane-first zero i = record { low = omega arith; high = omega arith; before = none-empty (omega arith); found = λ h. absurd (omega arith) }
   lane-first (suc n) i =

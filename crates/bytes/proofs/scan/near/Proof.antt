@@ -1,4 +1,4 @@
--- `crate::scan::near` meets its contract. Invariant: no b stands before i. Measure: 64 less i.
+-- `crate::scan::near` meets its contract. Invariant: no b stands before i. Measure: 128 less i.
 -- Assumes nothing.
 use Prim.Native.Nat.{_-_, _/_, _≤_, _<_}
 use native.Mathlib.Omega.{arith}
@@ -11,16 +11,19 @@ use Rattle.bytes.proofs.scan.near.Statement.{statement}
 use Rattle.bytes.proofs.scan.near.Tie as tie
 
 abbrev Inv-loop : tie.InvT-loop
-Inv-loop a b i₀ i = (i ≤ 64) × None a b 0 i
+Inv-loop a b i₀ i = (i ≤ 128) × None a b 0 i
 
 abbrev μ-loop : tie.MeasureT-loop
-μ-loop a b i₀ i = 64 - i
+μ-loop a b i₀ i = 128 - i
 
 returns : tie.Need-returns Inv-loop μ-loop
 returns c = record { low = omega arith; inside = λ h. absurd (omega arith); found = λ h. absurd (omega arith) }
 
 loop-holds : tie.Need-loop-holds Inv-loop μ-loop
 loop-holds c = (omega arith, none-empty (omega arith))
+
+sub-loop : tie.Need-sub-loop Inv-loop μ-loop
+sub-loop c = search needs
 
 marks-requires : tie.Need-marks-requires Inv-loop μ-loop
 marks-requires c κs = search needs
@@ -70,6 +73,7 @@ near-spec =
     μ-loop
     returns
     loop-holds
+    sub-loop
     marks-requires
     cast-result
     add-result
