@@ -7,7 +7,7 @@ ghost use Rattle.text.specs.Scan.{Passed, First, Near, sizeBy};
 use crate::word::marks;
 
 // So many bytes are near. Most lines are shorter.
-pub const NEAR: usize = 128;
+pub const NEAR: usize = 96;
 
 // The first b among the sixty-four bytes from `from` on, counted from there, or 64: a minimum over all of them.
 fn window(a: &[u8], from: usize, b: u8) -> u8

@@ -23,11 +23,11 @@ pub record First (a : List ℕ) (b lo hi r : ℕ) : Type 0 where
   pub before : None a b lo r
   pub found : r < hi → getD a r 0 ≡ b
 
--- below 128 r is the first b of a, and stands in it
+-- below 96 r is the first b of a, and stands in it
 pub record Near (a : List ℕ) (b r : ℕ) : Type 0 where
-  pub low : r ≤ 128
-  pub inside : r < 128 → r < length a
-  pub found : r < 128 → First a b 0 (length a) r
+  pub low : r ≤ 96
+  pub inside : r < 96 → r < length a
+  pub found : r < 96 → First a b 0 (length a) r
 
 -- of so many bytes, those of a line whose LF stands at n, or that has none: its LF is among them
 abbrev pub sizeBy : ℕ → ℕ → ℕ

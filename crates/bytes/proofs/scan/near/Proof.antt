@@ -1,4 +1,4 @@
--- `crate::scan::near` meets its contract. Invariant: no b stands before i. Measure: 128 less i.
+-- `crate::scan::near` meets its contract. Invariant: no b stands before i. Measure: 96 less i.
 -- Assumes nothing.
 use Prim.Native.Nat.{_-_, _/_, _≤_, _<_}
 use native.Mathlib.Omega.{arith}
@@ -11,10 +11,10 @@ use Rattle.bytes.proofs.scan.near.Statement.{statement}
 use Rattle.bytes.proofs.scan.near.Tie as tie
 
 abbrev Inv-loop : tie.InvT-loop
-Inv-loop a b i₀ i = (i ≤ 128) × None a b 0 i
+Inv-loop a b i₀ i = (i ≤ 96) × None a b 0 i
 
 abbrev μ-loop : tie.MeasureT-loop
-μ-loop a b i₀ i = 128 - i
+μ-loop a b i₀ i = 96 - i
 
 returns : tie.Need-returns Inv-loop μ-loop
 returns c = record { low = omega arith; inside = λ h. absurd (omega arith); found = λ h. absurd (omega arith) }
