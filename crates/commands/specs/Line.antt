@@ -39,7 +39,7 @@ spanOf lead t = record { start = lead + indexOf 34 t + 1; len = length (quoted t
 unfoldable pub quotedReading : DataCommand → ℕ → List ℕ → LabelPosition → Reading
 quotedReading c lead t r = cond (eqb (length (quoted t)) 0) reading.Nothing (withData c (paramsOf t) (quoted t) (spanOf lead t) r)
 
--- "`R` .. set[s] the reference"
+-- "`R` and `N` set the reference": what a line says that sets it to p
 abbrev pub setTo : LabelPosition → Reading
 setTo p = reading.Reference (p .x) (p .y)
 

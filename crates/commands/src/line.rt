@@ -65,6 +65,7 @@ fn read_quoted(c: DataCommand, t: &[u8], lead: usize, reference: LabelPosition) 
     with_data(c, params, data, span, reference)
 }
 
+// What a line says that sets the reference to p.
 fn set_to(p: LabelPosition) -> Reading
     ensures { λ r. ⌜ r ≡ setTo p ⌝ }
 {

@@ -1,16 +1,17 @@
 -- Laws of a search by places: stretches without b are joined, a minimum over sixty-four places is the first b there (`Least`),
 -- and the first b by places is the one that `indexOf` gives.
 -- Assumes nothing.
-use mathlib.Core.Path.{_≡_, sym, ap, subst}
+use mathlib.Core.Path.{_≡_, sym, ap, subst, _∙_}
 use mathlib.Core.List.{List, [], _∷_}
 use mathlib.Core.Logic.{_⊎_, inl, inr, ⊎-elim}
 use Prim.Native.Nat.{ℕ, zero, suc, _+_, _-_, _≤_, _<_, min}
 use native.Mathlib.Nat.{eq-zero-or-pos}
 use native.Mathlib.Omega.{arith}
-use lib.ListN.{length, getD}
+use lib.ListN.{length, getD, take}
+use lib.Seq.{getD-take, length-take-le}
 use borrow.Author.Tests.{eq-eqb, ne-eqb, lt-ltb, le-ltb}
 use Rattle.text.specs.Fields.{indexOf, Found}
-use Rattle.text.specs.Scan.{None, Passed, First, sizeBy}
+use Rattle.text.specs.Scan.{None, Passed, First, nearIn, Near, sizeBy}
 
 pub none-empty : {a : List ℕ} {b lo hi : ℕ} → hi ≤ lo → None a b lo hi
 none-empty h = record { none = λ k p q e. omega arith }
@@ -54,6 +55,26 @@ index-is b (x ∷ a) (suc r) h n f = simp (ne-eqb x b (n 0 (omega arith))) (ap s
 
 pub first-found : {a : List ℕ} {b r : ℕ} → First a b 0 (length a) r → Found b a r
 first-found {a} {b} {r} f = record { is = index-is b a r (f .high) (λ k l. f .before .none k (omega arith) l) (f .found); fits = f .high }
+
+-- ---- what `near` answers
+pub near-short : (a : List ℕ) (b : ℕ) → length a < 96 → Near a b 96
+unfolding nearIn
+near-short a b h = record { is = simp (lt-ltb (length a) 96 h); inside = λ l. absurd (omega arith); found = λ l. absurd (omega arith) }
+
+pub near-first : {a : List ℕ} {b r : ℕ} → 96 ≤ length a → First a b 0 96 r → Near a b r
+unfolding nearIn
+near-first {a} {b} {r} h f =
+    let n : length (take 96 a) ≡ 96 = length-take-le 96 a h in
+    let u = f .high in
+    record {
+      is =
+          simp (le-ltb (length a) 96 h)
+          (index-is b (take 96 a) r (omega arith)
+          (λ k l e. f .before .none k (omega arith) l (sym (getD-take 96 a k 0 (omega arith)) ∙ e))
+          (λ l. getD-take 96 a r 0 (omega arith) ∙ f .found (omega arith)));
+      inside = λ l. omega arith;
+      found = λ l. record { low = f .low; high = omega arith; before = f .before; found = λ _. f .found l };
+    }
 
 -- ---- a line's bytes, with its LF and without one
 pub size-with : (n m : ℕ) → n < m → suc n ≡ sizeBy n m

@@ -4,7 +4,8 @@ use mathlib.Core.Bool.{cond}
 use mathlib.Core.List.{List}
 use Prim.Native.Nat.{ℕ, suc, _≤_, _<_}
 use lib.Dec.{ltb}
-use lib.ListN.{length, getD}
+use lib.ListN.{length, getD, take}
+use Rattle.text.specs.Fields.{indexOf}
 
 -- no b from lo up to, not including, hi
 pub record None (a : List ℕ) (b lo hi : ℕ) : Type 0 where
@@ -23,9 +24,13 @@ pub record First (a : List ℕ) (b lo hi r : ℕ) : Type 0 where
   pub before : None a b lo r
   pub found : r < hi → getD a r 0 ≡ b
 
--- below 96 r is the first b of a, and stands in it
+-- where the first b stands among the first 96 bytes of a: 96 where none of them is b, or there are fewer
+unfoldable pub nearIn : ℕ → List ℕ → ℕ
+nearIn b a = cond (ltb (length a) 96) 96 (indexOf b (take 96 a))
+
+-- r is that; below 96 it is the first b of a, and stands in it
 pub record Near (a : List ℕ) (b r : ℕ) : Type 0 where
-  pub low : r ≤ 96
+  pub is : r ≡ nearIn b a
   pub inside : r < 96 → r < length a
   pub found : r < 96 → First a b 0 (length a) r
 

@@ -1,26 +1,27 @@
--- `crate::scan::near` meets its contract. Invariant: no b stands before i. Measure: 96 less i.
+-- `crate::scan::near` meets its contract. Invariant: eights are passed, and no b stands before i. Measure: 96 less i.
 -- Assumes nothing.
-use Prim.Native.Nat.{_-_, _/_, _≤_, _<_}
+use mathlib.Core.Path.{_≡_, refl}
+use Prim.Native.Nat.{_-_, _/_, _%_, _≤_, _<_}
 use native.Mathlib.Omega.{arith}
 use lib.Count.{trailingZeros}
 use borrow.Author.Needs.{needs}
 use Rattle.text.specs.Scan.{None}
-use Rattle.text.proofs.ScanLaws.{none-empty, none-join}
+use Rattle.text.proofs.ScanLaws.{none-empty, none-join, near-short, near-first}
 use Rattle.text.proofs.WordLaws.{mark-near, mark-first, mark-none}
 use Rattle.bytes.proofs.scan.near.Statement.{statement}
 use Rattle.bytes.proofs.scan.near.Tie as tie
 
 abbrev Inv-loop : tie.InvT-loop
-Inv-loop a b i₀ i = (i ≤ 96) × None a b 0 i
+Inv-loop a b i₀ i = (i ≤ 96) × (i % 8 ≡ 0) × None a b 0 i
 
 abbrev μ-loop : tie.MeasureT-loop
 μ-loop a b i₀ i = 96 - i
 
 returns : tie.Need-returns Inv-loop μ-loop
-returns c = record { low = omega arith; inside = λ h. absurd (omega arith); found = λ h. absurd (omega arith) }
+returns c = near-short (c .before .before .args .a .now) (c .before .before .args .b) (c .if1 .taken)
 
 loop-holds : tie.Need-loop-holds Inv-loop μ-loop
-loop-holds c = (omega arith, none-empty (omega arith))
+loop-holds c = (omega arith, refl, none-empty (omega arith))
 
 sub-loop : tie.Need-sub-loop Inv-loop μ-loop
 sub-loop c = search needs
@@ -44,11 +45,7 @@ returns-2 c =
     let s = l .before .before .before .args in
     let h = near c in
     let f = mark-first (s .a .now) (s .b) (l .loop .i) (c .before .marks .ensures) in
-    record {
-      low = omega arith;
-      inside = λ p. omega arith;
-      found = λ p. record { low = omega arith; high = omega arith; before = none-join (l .loop .inv .1) (f .before); found = λ q. f .found (omega arith) };
-    }
+    near-first (omega arith) (record { low = omega arith; high = omega arith; before = none-join (l .loop .inv .2) (f .before); found = λ q. f .found (omega arith) })
 
 add-i : tie.Need-add-i Inv-loop μ-loop
 add-i c = search needs
@@ -60,10 +57,13 @@ loop-again : tie.Need-loop-again Inv-loop μ-loop
 loop-again c =
     let l = c .before .before .before in
     let s = l .before .before .before .args in
-    (omega arith, none-join (l .loop .inv .1) (mark-none (s .a .now) (s .b) (l .loop .i) (c .before .marks .ensures) (c .if2 .left)))
+    (omega arith, omega arith, none-join (l .loop .inv .2) (mark-none (s .a .now) (s .b) (l .loop .i) (c .before .marks .ensures) (c .if2 .left)))
 
 returns-3 : tie.Need-returns-3 Inv-loop μ-loop
-returns-3 c = record { low = omega arith; inside = λ h. absurd (omega arith); found = λ h. absurd (omega arith) }
+returns-3 c =
+    let l = c .before in
+    let e : l .loop .i ≡ 96 = omega arith in
+    near-first (omega arith) (record { low = omega arith; high = omega arith; before = rw e at (l .loop .inv .2); found = λ h. absurd (omega arith) })
 
 pub near-spec : {M : Type 1} → statement M
 near-spec =
