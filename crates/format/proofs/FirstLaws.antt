@@ -2,7 +2,7 @@
 use mathlib.Core.Path.{_≡_, refl, sym, ap, _∙_}
 use mathlib.Core.List.{List, [], _∷_, _++_, append-nil}
 use mathlib.Core.Bool.{false}
-use Prim.Native.Nat.{ℕ, _+_, _-_, _<_, _≤_}
+use Prim.Native.Nat.{ℕ, _+_, _<_, _≤_}
 use native.Mathlib.Numerals.{add-one}
 use native.Mathlib.Omega.{arith}
 use lib.Dec.{eqb}
@@ -25,7 +25,7 @@ use Rattle.grammar.specs.Normal.{kept, written, chunkBy, chunk}
 use Rattle.grammar.proofs.LineLaws.{line-by}
 use Rattle.grammar.proofs.LineTurnLaws.{front-index}
 use Rattle.grammar.proofs.ChunkLaws.{chunk-sound}
-use Rattle.grammar.proofs.TrimmedLaws.{behind, inside}
+use Rattle.grammar.proofs.TrimmedLaws.{inside}
 use Rattle.lines.specs.Lines.{ended}
 use Rattle.lines.proofs.EndedLaws.{ended-some}
 use Rattle.format.specs.Normalise.{Blocks}
