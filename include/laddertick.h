@@ -6,10 +6,10 @@
  * of stack (docs/PERFORMANCE.md has the measured figure).
  *
  * What you lend stays yours. A function reads `input` and writes `out` only between their ends and only until it returns; it keeps no pointer. `input` and
- * `out` must not overlap, and no pointer may be NULL; where the length is 0 any other pointer will do. Nobody may write the input while a walk over it lasts.
+ * `out` must not overlap, and nobody may write the input during a call or while a walk over it lasts. Where a length is 0 any pointer will do, NULL too.
  *
  * Nothing else is asked of you. Any bytes, any lengths and any walk state, however made, are answered or refused; a refused call leaves `out` as it came.
- * For what is proved of each function see docs/CONTRACTS.md.
+ * For what is proved of each function, and what is assumed, see docs/CONTRACTS.md.
  *
  * A file is at most LADDERTICK_LONGEST bytes.
  */

@@ -5,7 +5,7 @@
  *
  * CASES is a file of inputs (each its length, 4 bytes with the most significant first, and its bytes: crates/replay/stdin). Each input, as it stands and in
  * ROUNDS damaged copies, goes to every entry point: once with its first byte behind a guard page, once with its last byte before one, and not writable.
- * Buffers likewise, with room to spare, with just enough and with one byte less. Calls run on a stack of 64 KiB between guard pages.
+ * Buffers likewise, with room to spare, with just enough and with one byte less; and NULL of length 0 for each. Calls run on a stack of 64 KiB between guard pages.
  * Held as well: a refused call leaves the buffer as it came, bytes past the written length keep their values, and both placements are answered alike.
  */
 #define _GNU_SOURCE
@@ -169,6 +169,17 @@ static void lend(const char *name, void (*function)(void), size_t n, int last)
         wrong("a byte was changed that is not the answer's");
 }
 
+/* No buffer at all: the same, or 15 with the length needed where there is something to write. */
+static void lend_null(const char *name, void (*function)(void), laddertick_written whole)
+{
+    out = NULL;
+    out_len = 0;
+    call(name, function);
+    calls++;
+    if (written.number != (whole.number == 0 && whole.place > 0 ? LADDERTICK_OUTPUT_TOO_SHORT : whole.number) || written.place != whole.place)
+        wrong("NULL of length 0 is not answered as an empty buffer");
+}
+
 /* Room to spare, just enough, one byte less, none: 15 exactly where it is too short, with the length needed. */
 static void writes(const char *name, void (*function)(void), int last)
 {
@@ -176,6 +187,8 @@ static void writes(const char *name, void (*function)(void), int last)
     laddertick_written whole = written;
     if (whole.number == LADDERTICK_OUTPUT_TOO_SHORT)
         wrong("15 with space left");
+    lend_null(name, function, whole);
+    written = whole;
     if (whole.number != 0)
         return;
     size_t need = whole.place;
@@ -262,6 +275,17 @@ static void hold(const uint8_t *bytes, size_t n)
     states();
 }
 
+/* An empty input at NULL. */
+static void hold_null(void)
+{
+    input = NULL;
+    input_len = 0;
+    walks(0);
+    writes("laddertick_list", do_list, 0);
+    writes("laddertick_normalise", do_normalise, 0);
+    states();
+}
+
 /* A copy with a few bytes changed or lost, or cut short. */
 static size_t damaged(uint8_t *to, const uint8_t *from, size_t n)
 {
@@ -312,6 +336,7 @@ int main(int argc, char **argv)
     struct sigaction act = {.sa_handler = fault, .sa_flags = SA_ONSTACK};
     sigaction(SIGSEGV, &act, NULL);
     sigaction(SIGBUS, &act, NULL);
+    hold_null();
     uint8_t head[4];
     size_t most = 0;
     while (fread(head, 1, 4, file) == 4) {

@@ -64,14 +64,25 @@ impl WorkingCopy {
         let [old_text, old_stamp] = [&file, &stamp].map(|path| fs::read(path).expect("a file of the copy"));
         let is_library = fs::rename(&library, &kept).is_ok();
         fs::write(&file, new).expect("the file of the edit");
-        let (said, proved) = self.check(&[crate_name.into()], seconds);
+        let answer = self.verdict_as_it_stands(crate_name, seconds);
         fs::write(&file, old_text).expect("the file of the edit");
         let _ = fs::remove_dir_all(&library);
         if is_library {
             fs::rename(&kept, &library).expect("the proved library");
         }
         fs::write(&stamp, old_stamp).expect("the stamp");
+        answer
+    }
+
+    /// `rt check` of a crate as it stands.
+    pub fn verdict_as_it_stands(&self, crate_name: &str, seconds: u64) -> (Verdict, String) {
+        let (said, proved) = self.check(&[crate_name.into()], seconds);
         (read(crate_name, &said, proved), said)
+    }
+
+    /// Another text for a file, whose path is from the copy's root on. It stays.
+    pub fn write(&self, path: &str, new: &str) {
+        fs::write(self.root.join(path), new).expect("the file of the edit");
     }
 }
 

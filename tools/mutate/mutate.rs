@@ -10,7 +10,8 @@
 //! that changes nothing may be refused too, since the proof was written for the other form.
 //!
 //! tokens, source: the code as tokens and functions. body, edits: the edits that a function allows. plan: which are tried. check: what
-//! `rt` says of one. run: the jobs. report: target/mutate/report.txt, and the table at the end.
+//! `rt` says of one. run: the jobs. report: target/mutate/report.txt, and the table at the end. together: the other mode, `--together`, whose edits are
+//! written by hand and change definitions along with the code.
 
 mod body;
 mod check;
@@ -19,6 +20,7 @@ mod plan;
 mod report;
 mod run;
 mod source;
+mod together;
 mod tokens;
 
 use check::{Verdict, WorkingCopy};
@@ -26,6 +28,7 @@ use plan::{plan, Plan, Subject};
 use report::Report;
 use run::Run;
 use source::Sources;
+use std::collections::BTreeMap;
 use std::fs;
 use std::path::{Path, PathBuf};
 use std::process::exit;
@@ -40,22 +43,27 @@ struct Options {
     seed: u64,
     resume: bool,
     plan: bool,
+    /// The names of the edits that were asked for; none stands for all.
+    together: Option<Vec<String>>,
 }
 
 fn main() {
     let root = std::env::current_dir().expect("a current folder");
     let listed = source::listed_crates(&root);
     let options = options(&listed).unwrap_or_else(|| {
-        eprintln!("usage: tools/mutate/run [--crates A,B] [--most N] [--jobs J] [--seed S] [--resume] [--plan]");
+        eprintln!("usage: tools/mutate/run [--crates A,B] [--most N] [--jobs J] [--seed S] [--resume] [--plan]\n       tools/mutate/run --together [NAME..] [--jobs J]");
         exit(2)
     });
     let sources = Sources::read(&root, &listed);
     let seconds = listed.iter().map(|name| (name.clone(), seconds_of(&root, name))).collect();
+    if let Some(names) = &options.together {
+        exit(together(&root, names, &seconds, &options));
+    }
     let plan = plan(&sources, &options.crates, &seconds, options.most, options.seed);
     if options.plan {
         return print_plan(&sources, &plan);
     }
-    let copies = copies(&root, &options);
+    let copies = copies(&root, &options.crates, options.jobs);
     let report = Report::open(root.join("target/mutate"), options.resume);
     let results = Run::new(&sources, &plan, &seconds, report).on(&copies);
     let summary = report::summary(&plan.subjects, &results);
@@ -65,8 +73,23 @@ fn main() {
     exit(results.iter().any(|(_, _, verdict)| left(verdict)) as i32);
 }
 
+/// The edits of definitions together with code: the exit status.
+fn together(root: &Path, names: &[String], seconds: &BTreeMap<String, u64>, options: &Options) -> i32 {
+    let edits = together::read(root, names).unwrap_or_else(|faults| {
+        eprintln!("{faults}\nNOTHING WAS TRIED: these edits do not fit the files");
+        exit(2)
+    });
+    copies(root, &options.crates, 1);
+    let folder = root.join("target/mutate/together");
+    fs::create_dir_all(&folder).expect("a folder below target/mutate");
+    let (table, refused) = together::run(&root.join("target/mutate/0"), &folder, &edits, seconds, options.jobs);
+    fs::write(folder.join("summary.txt"), &table).expect("the summary");
+    print!("{table}");
+    !refused as i32
+}
+
 fn options(listed: &[String]) -> Option<Options> {
-    let mut options = Options { crates: listed.to_vec(), most: 180, jobs: 2, seed: 1, resume: false, plan: false };
+    let mut options = Options { crates: listed.to_vec(), most: 180, jobs: 2, seed: 1, resume: false, plan: false, together: None };
     let mut words = std::env::args().skip(1);
     while let Some(word) = words.next() {
         match word.as_str() {
@@ -76,6 +99,8 @@ fn options(listed: &[String]) -> Option<Options> {
             "--seed" => options.seed = words.next()?.parse().ok()?,
             "--resume" => options.resume = true,
             "--plan" => options.plan = true,
+            "--together" => options.together = Some(vec![]),
+            name if !name.starts_with('-') => options.together.as_mut()?.push(name.into()),
             _ => return None,
         }
     }
@@ -99,20 +124,20 @@ fn size(path: &Path) -> u64 {
 }
 
 /// A copy for each job. The first proves what is stale, so that an edit's check proves the edited crate alone.
-fn copies(root: &Path, options: &Options) -> Vec<WorkingCopy> {
+fn copies(root: &Path, crates: &[String], jobs: usize) -> Vec<WorkingCopy> {
     let proved = |name: &String| root.join("target/stamp").join(name).exists();
-    if !root.join("target/rlib").is_dir() || !options.crates.iter().all(proved) {
+    if !root.join("target/rlib").is_dir() || !crates.iter().all(proved) {
         eprintln!("the crates are not proved: run rt check first");
         exit(2);
     }
     let folder = |job: usize| -> PathBuf { root.join(format!("target/mutate/{job}")) };
     let first = WorkingCopy::make(root, &folder(0));
-    let (said, proved) = first.check(&options.crates, 7200);
+    let (said, proved) = first.check(crates, 7200);
     if !proved {
         eprintln!("{said}the crates are not proved as they stand");
         exit(2);
     }
-    let others = (1..options.jobs).map(|job| WorkingCopy::make(&folder(0), &folder(job)));
+    let others = (1..jobs).map(|job| WorkingCopy::make(&folder(0), &folder(job)));
     others.chain([first]).collect()
 }
 

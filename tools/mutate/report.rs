@@ -47,7 +47,7 @@ impl Report {
     }
 }
 
-fn word(verdict: Verdict) -> &'static str {
+pub fn word(verdict: Verdict) -> &'static str {
     VERDICTS.iter().find(|(v, _)| *v == verdict).expect("a verdict").1
 }
 

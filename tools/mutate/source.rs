@@ -115,11 +115,16 @@ impl Sources {
     }
 }
 
-/// The crates that crates.txt names, in its order, each with those that it depends on.
+/// The crates that crates.txt names, in its order.
 pub fn listed_crates(root: &Path) -> Vec<String> {
+    listed_dependencies(root).into_iter().map(|(name, _)| name).collect()
+}
+
+/// The same, each with those that its line names.
+pub fn listed_dependencies(root: &Path) -> Vec<(String, Vec<String>)> {
     let text = fs::read_to_string(root.join("crates.txt")).expect("crates.txt");
-    let names = text.lines().filter_map(|line| line.split('#').next()?.split_once(':'));
-    names.map(|(name, _)| name.trim().to_string()).collect()
+    let lines = text.lines().filter_map(|line| line.split('#').next()?.split_once(':'));
+    lines.map(|(name, needs)| (name.trim().to_string(), needs.split_whitespace().map(String::from).collect())).collect()
 }
 
 fn rt_files(folder: &Path) -> Vec<PathBuf> {

@@ -64,8 +64,8 @@ extern "C" {
     fn laddertick_normalise(input: *const u8, input_len: usize, out: *mut u8, out_len: usize) -> Written;
 }
 
-// Safe, all of them: the pointers and lengths are those of slices, which are not NULL and, one of them being `&mut`, do not overlap. The library asks
-// for nothing else and keeps no pointer.
+// Safe, all of them: the pointers and lengths are those of slices, which nobody writes meanwhile and which, one of them being `&mut`, do not overlap. An empty
+// slice's pointer leads nowhere, and the library takes any, NULL too. It asks for nothing else and keeps no pointer.
 
 pub fn start() -> Walk {
     unsafe { laddertick_start() }

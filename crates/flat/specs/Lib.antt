@@ -1,2 +1,6 @@
 -- 01, "Frames": the fields of an answer as named numbers
 pub mod Flat
+-- 01, "Forms that change": states and answers of steps, flat
+pub mod Steps
+-- 01, "Frames": a frame from the fields of an answer
+pub mod Frames

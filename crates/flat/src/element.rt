@@ -212,13 +212,13 @@ fn aztec(e: BarcodeAztecWithData, next: WalkState) -> Answer
 fn datamatrix(e: BarcodeDatamatrixWithData, next: WalkState) -> Answer
     ensures { λ r. ⌜ r ≡ flatElement (element.BarcodeDatamatrix e) next ⌝ }
 {
-    let b = e.barcode;
+    let matrix = e.barcode;
     let position = e.position;
     let data = e.data;
     let mut a = placed(13, position, data, next);
-    a.height = b.height;
-    a.columns = b.columns;
-    a.rows = b.rows;
+    a.height = matrix.height;
+    a.columns = matrix.columns;
+    a.rows = matrix.rows;
     a
 }
 

@@ -4,3 +4,5 @@ pub mod ListingLaws
 pub mod PrintingLaws
 -- how long a listing is
 pub mod Room
+-- a program, from standard input to standard output
+pub mod ProgramLaws

@@ -4,7 +4,7 @@ use mathlib.Core.Bool.{cond}
 use mathlib.Core.List.{List, []}
 use Prim.Native.Nat.{ℕ}
 use lib.Dec.{ltb}
-use lib.ListN.{length}
+use lib.ListN.{length, take}
 use Rattle.text.specs.Wrote.{Wrote}
 use Rattle.element_frames.specs.Frame.{refusalFrame}
 use Rattle.element_frames.specs.Hex.{lineOf}
@@ -36,6 +36,20 @@ printed s d m = shownBy m (fitting (within 65536 s d) m)
 -- "The listing program reads standard input"
 abbrev pub printedOf : List ℕ → ℕ → List ℕ
 printedOf s m = printed s (dueOf s) m
+
+-- ---- a program, from standard input to standard output
+-- a program has read standard input s into its buffer l, until l was full or s at its end: the n bytes read are s as far as l holds it
+-- (`took`, ProgramLaws: such a buffer has it, whatever s is)
+abbrev pub Took : List ℕ → ℕ → List ℕ → Type 0
+Took l n s = take n l ≡ take (length l) s
+
+-- what it prints for s, of any length, to which d is due: "over 65,536 bytes: 14", else all of it; 15 is no answer
+abbrev pub shownFor : List ℕ → Due → List ℕ
+shownFor s d = shownOf (within 65536 s d)
+
+-- the first r bytes of its other buffer, now o, are that, whatever stands in s behind what was read
+abbrev pub Shows : (List ℕ → Due) → List ℕ → ℕ → List ℕ → ℕ → Type 0
+Shows due l n o r = (s : List ℕ) → Took l n s → take r o ≡ shownFor s (due s)
 
 -- ---- the parts
 -- what is written over a buffer of m bytes that a call has filled, by what the call gave back

@@ -54,15 +54,15 @@ pub block-length : (bs : List ℕ) (h : Header) (p : List ℕ) → length (bs ++
 block-length bs h p = ap length (sym (block-append bs h [] p)) ∙ length-append (bs ++ gw h []) p
 
 -- blanks and fields, as in a block
-record Before (bs : List ℕ) (h : Header) : Type 0 where
-  blanks : All isLineBlank bs
-  in-x : All inField (h .x)
-  in-y : All inField (h .y)
-  in-width : All inField (h .width)
-  in-lines : All inField (h .lines)
+pub record Before (bs : List ℕ) (h : Header) : Type 0 where
+  pub blanks : All isLineBlank bs
+  pub in-x : All inField (h .x)
+  pub in-y : All inField (h .y)
+  pub in-width : All inField (h .width)
+  pub in-lines : All inField (h .lines)
 
 -- the numbers of a header
-abbrev numbers : Header → GwNumbers
+abbrev pub numbers : Header → GwNumbers
 numbers h = record { at = record { x = number (h .x); y = number (h .y) }; «width_bytes» = number (h .width); lines = number (h .lines) }
 
 numbers-are : (t : List ℕ) → gwNumbers t ≡ numbers (headerFields t)
@@ -95,7 +95,7 @@ module _ (bs : List ℕ) (h : Header) (q : List ℕ) (w : Before bs h) where
   start-is = omega (arith, block-length bs h q)
 
   -- the header's numbers, the payload's place and what is left are measured
-  gw-span-is : gwSpan (bs ++ gw h q) ≡ measured (numbers h) (length (bs ++ gw h [])) (length q)
+  pub gw-span-is : gwSpan (bs ++ gw h q) ≡ measured (numbers h) (length (bs ++ gw h [])) (length q)
   unfolding gwSpan
   gw-span-is =
       rw (opens-gw, header-is, four-is, payload-is, start-is)
@@ -167,7 +167,7 @@ module _ (bs : List ℕ) (h : Header) (p rest : List ℕ) (st : Block bs h p) wh
       ∙ (rw (blanks-are, fields-are, size, ← drop-drop, left, take-at p rest n (st .whole), drop-at p rest n (st .whole)))
 
 -- a string that opens with `GW` and four closed fields, by its parts
-gw-cut : (s : List ℕ) → opensGw s ≡ true → fourClosed (headerOf s) ≡ true → s ≡ front isLineBlank s ++ gw (headerFields (headerOf s)) (payloadOf (headerOf s))
+pub gw-cut : (s : List ℕ) → opensGw s ≡ true → fourClosed (headerOf s) ≡ true → s ≡ front isLineBlank s ++ gw (headerFields (headerOf s)) (payloadOf (headerOf s))
 unfolding opensGw fourClosed payloadOf
 gw-cut s o f =
     let t = dropWhile isLineBlank s in
@@ -225,7 +225,7 @@ span-by s bs h q g w cut e =
       is = sym (m .is) ∙ end;
     }
 
-before-of : (s : List ℕ) → Before (front isLineBlank s) (headerFields (headerOf s))
+pub before-of : (s : List ℕ) → Before (front isLineBlank s) (headerFields (headerOf s))
 before-of s =
     let x = headerOf s in let y = afterHeaderField x in let w = afterHeaderField y in let l = afterHeaderField w in
     record { blanks = front-all isLineBlank s; in-x = front-all inField x; in-y = front-all inField y; in-width = front-all inField w; in-lines = front-all inField l }

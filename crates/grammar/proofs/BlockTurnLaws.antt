@@ -22,8 +22,8 @@ use Rattle.graphics.specs.declared.gw_span.GwSpan.{GwSpan}
 use Rattle.graphics.specs.Block.{gwSpan, graphicPlaced, graphicAt, blockReading, laterBlock}
 use Rattle.whole.specs.Language.{yield}
 use Rattle.whole.specs.Reading.{Reading, nothing, fault, gives, did, reading, readingOf, moved}
-use Rattle.grammar.specs.Units.{Header, gw, bytes, number}
 use Rattle.grammar.specs.Units as units
+use Rattle.grammar.specs.Units.{Header, gw, bytes, number}
 use Rattle.grammar.specs.Found.{found, first}
 use Rattle.grammar.specs.Epl.{actOf, acts, epl}
 use Rattle.grammar.proofs.BlockLaws.{block-length, blockSpan, span-sound}

@@ -15,10 +15,12 @@ use Rattle.graphics.specs.Block.{opensGw, gwSpan}
 use Rattle.whole.specs.Language.{First, none, bad, unit}
 use Rattle.whole.specs.Division.{Reads}
 use Rattle.whole.proofs.DivisionLaws.{bad≢unit, none≢unit, bad≢none, as-unit}
-use Rattle.grammar.specs.WellFormed.{wellFormed}
 use Rattle.grammar.specs.Units.{EplUnit, block, line, last, gw, bytes, Stands}
+use Rattle.grammar.specs.WellFormed.{wellFormed}
 use Rattle.grammar.specs.Found.{textLine, said, judged, found, first}
 use Rattle.grammar.specs.Epl.{epl}
+use Rattle.grammar.proofs.LineFaultLaws.{faultless, well-faultless}
+use Rattle.grammar.proofs.OpensLaws.{opens-not, not-opens}
 use Rattle.grammar.proofs.LineLaws.{Cut, TextLine, opens-line, line-finds, last-finds, line-sound, text-line-none}
 use Rattle.grammar.proofs.BlockLaws.{block-finds, Spanned, span-sound, span-none, none-opens}
 
@@ -40,9 +42,9 @@ judged-none (unit u rest) e = absurd (test (wellFormed (trim (said u))) (λ f. n
 command-stands : (s : List ℕ) (u : EplUnit) (rest : List ℕ) → opensGw s ≡ false → s ≡ bytes u ++ rest → TextLine u rest → wellFormed (trim (said u)) ≡ true → Stands u rest
 command-stands s (block bs h p) rest o e l w = absurd l
 command-stands s (line t) rest o e l w =
-    record { one-line = l; no-graphic = sym (opens-line t rest) ∙ ap opensGw (sym (append-assoc t (10 ∷ []) rest) ∙ sym e) ∙ o; well-formed = w }
+    record { one-line = l; no-graphic = opens-not t (sym (opens-line t rest) ∙ ap opensGw (sym (append-assoc t (10 ∷ []) rest) ∙ sym e) ∙ o); well-formed = well-faultless (trim t) w }
 command-stands s (last t) rest o e l w =
-    (record { one-line = l .0; no-graphic = ap opensGw (sym (append-nil t) ∙ ap (λ (x : List ℕ). t ++ x) (sym (l .2)) ∙ sym e) ∙ o; well-formed = w }, l .1, l .2)
+    (record { one-line = l .0; no-graphic = opens-not t (ap opensGw (sym (append-nil t) ∙ ap (λ (x : List ℕ). t ++ x) (sym (l .2)) ∙ sym e) ∙ o); well-formed = well-faultless (trim t) w }, l .1, l .2)
 
 command-sound : (s : List ℕ) (u : EplUnit) (rest : List ℕ) → opensGw s ≡ false → judged (textLine s) ≡ unit u rest → Cut s u rest × Stands u rest
 command-sound s u rest o h =
@@ -56,14 +58,14 @@ unfolding first
 first-finds (block bs h p) rest st = block-finds bs h p rest st
 first-finds (line t) rest st =
     ap first (append-assoc t (10 ∷ []) rest)
-    ∙ ap (found (t ++ 10 ∷ rest)) (span-none (t ++ 10 ∷ rest) (opens-line t rest ∙ st .no-graphic))
+    ∙ ap (found (t ++ 10 ∷ rest)) (span-none (t ++ 10 ∷ rest) (opens-line t rest ∙ not-opens t (st .no-graphic)))
     ∙ ap judged (line-finds t rest (st .one-line))
-    ∙ (simp (st .well-formed))
+    ∙ (simp (faultless (trim t) (st .well-formed)))
 first-finds (last t) rest st =
     ap first (ap (λ (x : List ℕ). t ++ x) (st .2) ∙ append-nil t)
-    ∙ ap (found t) (span-none t (st .0 .no-graphic))
+    ∙ ap (found t) (span-none t (not-opens t (st .0 .no-graphic)))
     ∙ ap judged (last-finds t (st .0 .one-line) (st .1))
-    ∙ (simp (st .0 .well-formed, st .2))
+    ∙ (simp (faultless (trim t) (st .0 .well-formed), st .2))
 
 -- the block that a span stands for
 pub span-first : (s : List ℕ) (g : GwSpan) (k : Spanned s g) → first s ≡ unit (block (k .bs) (k .h) (k .p)) (k .rest)

@@ -1,5 +1,9 @@
 -- fronts of a string
 pub mod FrontLaws
+-- 01's words and the reader's tests: the letters of a command, what is wrong with a line, `GW`
+pub mod SpelledLaws
+pub mod LineFaultLaws
+pub mod OpensLaws
 -- what stands first is found: a line, a block, either
 pub mod LineLaws
 pub mod BlockLaws
@@ -20,3 +24,12 @@ pub mod TrimmedLaws
 pub mod LaterLaws
 pub mod NormalLaws
 pub mod Normalises
+pub mod BecomesLaws
+-- 01's words and the reader: the numbers of a unit and what it does; its element's kind and place; a number field
+pub mod RangeLaws
+pub mod ShapeLaws
+pub mod NumberFieldLaws
+-- the same of a division: its labels; of what is refused: what stands first, the earliest
+pub mod InRangeLaws
+pub mod FaultLaws
+pub mod EarliestLaws

@@ -1,4 +1,4 @@
--- Normalised text, unit by unit: a unit that stands first is written in its normal form, which is settled, has its blocks and grows little.
+-- Normalised text, unit by unit: a unit that stands first is written in its normal form, which is settled, has its blocks and grows little; a block is its bytes.
 -- Assumes nothing.
 use mathlib.Core.Path.{_≡_, refl, sym, ap, subst, _∙_}
 use mathlib.Core.List.{List, [], _∷_, _++_, append-nil}
@@ -13,7 +13,8 @@ use Rattle.graphics.specs.Block.{opensGw, gwSpan}
 use Rattle.whole.specs.Language.{First, none, bad, unit}
 use Rattle.whole.specs.Normal.{each, Grows, no-longer, by-block, by-last}
 use Rattle.whole.proofs.DivisionLaws.{bad≢unit}
-use Rattle.grammar.specs.Units.{EplUnit, block, line, last, bytes, Stands}
+use Rattle.grammar.specs.Ascii.{spelt}
+use Rattle.grammar.specs.Units.{Header, EplUnit, block, line, last, bytes, Stands}
 use Rattle.grammar.specs.Found.{textLine, found, first}
 use Rattle.grammar.specs.Normal.{kept, normal, blocks, chunkBy, chunk, written, normalised}
 use Rattle.grammar.proofs.LineLaws.{TextLine, line-sound}
@@ -114,3 +115,10 @@ length-by (suc k) s h = subst (λ (t : List ℕ). length t ≤ length s + length
 
 pub length-normalised-le : (s : List ℕ) → length (normalised s) ≤ length s + length s / 6 + 1
 length-normalised-le s = length-by (suc (length s)) s (omega arith)
+
+-- ---- a graphic block is its bytes: blanks, `GW`, four fields and payload; a line has none
+pub block-bytes : (bs p : List ℕ) (h : Header) → blocks (block bs h p) ≡ (bs ++ spelt "GW" (h .x ++ spelt "," (h .y ++ spelt "," (h .width ++ spelt "," (h .lines ++ spelt "," p))))) ∷ []
+block-bytes bs p h = refl
+
+pub line-blocks : (t : List ℕ) → (blocks (line t) ≡ []) × (blocks (last t) ≡ [])
+line-blocks t = (refl, refl)

@@ -18,10 +18,12 @@ use Rattle.graphics.specs.Block.{opensGw}
 use Rattle.whole.specs.Labels.{Run, goes, leaves, before, andThen, effect, run}
 use Rattle.whole.specs.Normal.{Solid, none-left, and-then, Normalises}
 use Rattle.whole.proofs.Again.{follow}
-use Rattle.grammar.specs.WellFormed.{wellFormed}
 use Rattle.grammar.specs.Units.{EplUnit, block, line, last, bytes, all-nil, Command, Stands}
+use Rattle.grammar.specs.WellFormed.{wellFormed}
 use Rattle.grammar.specs.Epl.{actOf, epl}
 use Rattle.grammar.specs.Normal.{kept, normal, blocks, normalised}
+use Rattle.grammar.proofs.LineFaultLaws.{well-faultless}
+use Rattle.grammar.proofs.OpensLaws.{opens-not}
 use Rattle.grammar.proofs.SpanLaws.{line-in}
 use Rattle.grammar.proofs.TrimmedLaws.{command-trimmed}
 use Rattle.grammar.proofs.LaterLaws.{line-later, within}
@@ -30,7 +32,7 @@ use Rattle.grammar.proofs.NormalLaws.{normalised-unit, normalised-nil, 
 -- ---- a normal form stands before anything
 empty-command : Command []
 unfolding opensGw wellFormed commandOf isReference isPrint
-empty-command = record { one-line = all-nil; no-graphic = refl; well-formed = refl }
+empty-command = record { one-line = all-nil; no-graphic = opens-not [] refl; well-formed = well-faultless [] refl }
 
 kept-solid : (t : List ℕ) → Command t → Solid epl (kept t)
 kept-solid [] c = none-left

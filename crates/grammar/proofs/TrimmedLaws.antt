@@ -1,7 +1,7 @@
 -- A line without the ASCII blanks at its ends: it stands whole in the line, and is a command line where the line is one.
 -- Assumes nothing.
-use mathlib.Core.Path.{_≡_, sym, ap, _∙_}
-use mathlib.Core.Bool.{Bool, true, true≢false, false≢true, and-false, or-false}
+use mathlib.Core.Path.{_≡_, sym, ap, _∙_, subst}
+use mathlib.Core.Bool.{Bool, true, false≢true, and-false, or-false}
 use mathlib.Core.List.{List, [], _∷_, _++_, reverse, reverse-append, reverse-reverse}
 use Prim.Native.Nat.{ℕ, _≤_}
 use native.Mathlib.Omega.{arith}
@@ -13,9 +13,10 @@ use Rattle.text.specs.Fields.{same}
 use Rattle.text.proofs.BoolLaws.{test}
 use Rattle.text.proofs.TrimLaws.{trim-trim-ascii}
 use Rattle.graphics.specs.Block.{isLineBlank, opensGw}
-use Rattle.grammar.specs.WellFormed.{wellFormed}
+use Rattle.grammar.specs.LineFaults.{LineFault}
 use Rattle.grammar.specs.Units.{All, all-nil, all-cons, notLf, Command}
 use Rattle.grammar.proofs.FrontLaws.{front-drop, front-all, drop-passes}
+use Rattle.grammar.proofs.OpensLaws.{true-opens, opens-true}
 
 -- the blanks behind a trimmed line
 abbrev pub behind : List ℕ → List ℕ
@@ -74,6 +75,6 @@ module _ (t : List ℕ) (c : Command t) where
   pub command-trimmed : Command (trimAscii t)
   command-trimmed = record {
     one-line = all-left (trimAscii t) (behind t) (all-right (front isAsciiBlank t) _ parts);
-    no-graphic = test (opensGw (trimAscii t)) (λ e. absurd (true≢false (sym (opens-trimmed e) ∙ c .no-graphic))) (λ e. e);
-    well-formed = ap wellFormed (trim-trim-ascii t) ∙ c .well-formed;
+    no-graphic = λ o. c .no-graphic (true-opens t (opens-trimmed (opens-true o .0)));
+    well-formed = subst (λ (x : List ℕ). (n : ℕ) → LineFault x n → ⊥) (sym (trim-trim-ascii t)) (c .well-formed);
   }

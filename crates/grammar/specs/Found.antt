@@ -9,8 +9,8 @@ use Rattle.graphics.specs.declared.gw_span.Graphic.{Graphic}
 use Rattle.graphics.specs.declared.gw_span.Graphic.the-variants as graphic
 use Rattle.graphics.specs.Block.{isLineBlank, inField, afterHeaderField, headerOf, gwSpan}
 use Rattle.whole.specs.Language.{First, none, bad, unit}
-use Rattle.grammar.specs.WellFormed.{wellFormed, faultOf}
 use Rattle.grammar.specs.Units.{Header, EplUnit, block, line, last, notLf}
+use Rattle.grammar.specs.WellFormed.{wellFormed, faultOf}
 
 -- a line without LF, and what follows it
 abbrev pub lineBy : List ℕ → List ℕ → First EplUnit

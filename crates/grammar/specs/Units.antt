@@ -1,6 +1,6 @@
 -- The units of an EPL file and where they stand (01, "Grammar"). Nothing here speaks of how they are found.
 use mathlib.Core.Path.{_≡_}
-use mathlib.Core.Bool.{Bool, true, false, not}
+use mathlib.Core.Bool.{Bool, true, not}
 use mathlib.Core.List.{List, [], _∷_, _++_}
 use Prim.Native.Nat.{ℕ, _*_, _<_}
 use lib.Dec.{eqb}
@@ -8,8 +8,9 @@ use lib.IntN.{ℤ, pos}
 use lib.ListN.{length}
 use Rattle.text.specs.Blank.{trim}
 use Rattle.numbers.specs.Number.{fieldOr}
-use Rattle.graphics.specs.Block.{isLineBlank, opensGw, inField}
-use Rattle.grammar.specs.WellFormed.{wellFormed}
+use Rattle.graphics.specs.Block.{isLineBlank, inField}
+use Rattle.grammar.specs.Ascii.{spelt}
+use Rattle.grammar.specs.LineFaults.{LineFault}
 
 -- the four fields of a graphic block, as they stand between the commas
 pub record Header : Type 0 where
@@ -30,7 +31,7 @@ closed f s = f ++ 44 ∷ s
 
 -- `GW` and the four fields before s
 abbrev pub gw : Header → List ℕ → List ℕ
-gw h s = 71 ∷ 87 ∷ closed (h .x) (closed (h .y) (closed (h .width) (closed (h .lines) s)))
+gw h s = spelt "GW" (closed (h .x) (closed (h .y) (closed (h .width) (closed (h .lines) s))))
 
 -- "A line's LF belongs to it"
 abbrev pub bytes : EplUnit → List ℕ
@@ -65,13 +66,20 @@ pub record Block (bs : List ℕ) (h : Header) (payload : List ℕ) : Type 0 wher
   pub lines-is : number (h .lines) ≡ pos l
   pub whole : length payload ≡ w * l
 
+-- what follows the leading ASCII blanks of s begins with `GW`
+pub record Opens (s : List ℕ) : Type 0 where
+  pub bs : List ℕ
+  pub header : List ℕ
+  pub cut : s ≡ bs ++ spelt "GW" header
+  pub blanks : All isLineBlank bs
+
 pub record Command (t : List ℕ) : Type 0 where
   -- "no LF inside"
   pub one-line : All notLf t
   -- "what follows its leading ASCII blanks within the line doesn't begin with `GW`"
-  pub no-graphic : opensGw t ≡ false
-  -- "After its Unicode blanks .. are taken off both ends it must be well formed"
-  pub well-formed : wellFormed (trim t) ≡ true
+  pub no-graphic : Opens t → ⊥
+  -- "After its Unicode blanks .. are taken off both ends it must be well formed": none of its faults
+  pub well-formed : (n : ℕ) → LineFault (trim t) n → ⊥
 
 -- a unit stands before what follows it: a line is "ended by LF or, if not empty, by the end of input"
 abbrev pub Stands : EplUnit → List ℕ → Type 0

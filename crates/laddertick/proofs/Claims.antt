@@ -1,45 +1,70 @@
--- The claims hold. Assumes nothing.
-use mathlib.Core.Path.{_≡_, refl, ap, subst, _∙_}
-use mathlib.Core.Bool.{Bool, true, false, cond, _||_}
-use mathlib.Core.List.{List, []}
+-- The claims hold of any functions that meet the contracts. Assumes nothing.
+use mathlib.Core.Path.{_≡_, refl, sym, ap, subst, _∙_}
+use mathlib.Core.Bool.{false}
+use mathlib.Core.List.{List, [], map}
+use mathlib.Core.Logic.{_↔_}
 use Prim.Native.Nat.{ℕ, _≤_}
 use native.Mathlib.Omega.{arith}
-use lib.Dec.{ltb}
-use lib.ListN.{length, drop}
+use lib.ListN.{length, take}
 use Rattle.text.proofs.WhiteLaws.{code-points-trim}
 use Rattle.texts.proofs.FontLaws.{width-exact}
 use Rattle.elements.specs.declared.LabelElement.{LabelElement}
-use Rattle.elements.specs.declared.LabelPosition.{LabelPosition}
+use Rattle.elements.specs.declared.LabelElement.the-variants as element
 use Rattle.elements.specs.declared.refusal.Refusal.{Refusal}
 use Rattle.elements.specs.declared.refusal.Refusal.the-variants.{TextFields, BarcodeFields, Barcode2dFields, LineFields, DiagonalFields, BoxFields, BarcodeType, Barcode2dType, QrData, GraphicFields, GraphicNegative, GraphicTruncated, OutOfRange, InputTooLong, OutputTooShort, StateOutside}
 use Rattle.elements.specs.Refusals.{numberOf}
-use Rattle.element_frames.specs.Frame.{frameOf}
+use Rattle.elements.specs.Walk.{fresh}
+use Rattle.element_frames.specs.Frame.{be32, head, drawn, plain, ratioed, frameOf}
 use Rattle.element_frames.proofs.FrameLaws.{frame-local}
-use Rattle.whole.specs.Step.{State, Answer, handing, answer, step, longest}
-use Rattle.whole.specs.Step as step-of
-use Rattle.whole.specs.Reach.{Final, accepted, refusal, Reach, answered}
+use Rattle.whole.specs.Step.{longest}
+use Rattle.whole.specs.Division.{Division}
+use Rattle.whole.specs.Labels.{labels, labelsOf}
+use Rattle.whole.specs.Reach as theory
+use Rattle.whole.specs.Reach.{Final, accepted, refusal}
 use Rattle.whole.specs.Normal.{each, Normal}
-use Rattle.whole.specs.Trace.{ending, listed}
+use Rattle.whole.specs.Trace.{ending}
 use Rattle.whole.specs.Claims.{Local, Walks}
 use Rattle.whole.proofs.DivisionLaws.{unique}
 use Rattle.whole.proofs.Whole.{whole}
 use Rattle.whole.proofs.Again.{normal-text}
 use Rattle.whole.proofs.TraceLaws.{reach-outcome}
-use Rattle.whole.proofs.GivenLaws.{fills-kept}
+use Rattle.whole.proofs.GivenLaws.{within-short}
+use Rattle.grammar.specs.Units.{EplUnit}
+use Rattle.grammar.specs.WellFormed.{wellFormed, faultOf}
 use Rattle.grammar.specs.Epl.{origin, epl}
-use Rattle.grammar.proofs.FoundLaws.{reads}
+use Rattle.grammar.specs.Shapes.{kindOf, placeOf}
+use Rattle.grammar.specs.LineFaults.{LineFault}
+use Rattle.grammar.specs.Divided.{Earliest}
 use Rattle.grammar.specs.Normal.{normal, blocks, normalised}
-use Rattle.grammar.proofs.NormalLaws.{length-normalised-le}
+use Rattle.grammar.proofs.FoundLaws.{reads}
+use Rattle.grammar.proofs.SpelledLaws.{spelled}
+use Rattle.grammar.proofs.RangeLaws.{in-range, out-of-range}
+use Rattle.grammar.proofs.ShapeLaws.{shape}
+use Rattle.grammar.proofs.NumberFieldLaws.{number-fields}
+use Rattle.grammar.proofs.InRangeLaws.{in-range-labels, labels-in-range}
+use Rattle.grammar.proofs.LineFaultLaws.{ill-has-fault, fault-is-ill}
+use Rattle.grammar.proofs.FaultLaws.{faults}
+use Rattle.grammar.proofs.EarliestLaws.{fails-earliest, one-earliest, divides-no-earliest}
+use Rattle.grammar.proofs.NormalLaws.{length-normalised-le, block-bytes, line-blocks}
 use Rattle.grammar.proofs.Normalises.{normalises}
+use Rattle.grammar.proofs.BecomesLaws.{becomes}
 use Rattle.grammar.proofs.ReadingLaws.{ill-formed, well-formed-range}
 use Rattle.units.proofs.UnitLaws.{inside}
-use Rattle.elements.specs.Walk.{fresh}
-use Rattle.walk.specs.Steps.{stateOf}
-use Rattle.frames.specs.Listing.{FramedLabel, outcomeOf}
+use Rattle.walk.specs.declared.answer.Step.{Step}
+use Rattle.walk.specs.Steps.{answerOf}
+use Rattle.flat.proofs.FrameLaws.{flat-frame, flat-next}
+use Rattle.frames.specs.Listing.{FramedLabel, listingOf, outcomeOf, listingDue, dueOf}
+use Rattle.format.specs.Normalise as format
 use Rattle.frames.proofs.Room.{length-listing-le, never-short}
-use Rattle.laddertick.specs.Claims.{Divides, Normalising, Demand3, Claims}
-use Rattle.laddertick.proofs.InsideLaws.{data-inside}
+use Rattle.laddertick.specs.Contracts.{Library, Gives}
+use Rattle.laddertick.specs.Walked.{Walked, answered}
+use Rattle.laddertick.specs.Claims.{Divides, Normalising, Demand3, Claims, Theorem}
+use Rattle.laddertick.proofs.WalkedLaws.{walked, one-walked, answered-is}
+use Rattle.laddertick.proofs.CallLaws.{step-hands-back, list-keeps, normalise-keeps, long-step, long-list, long-normalise, outside, ended-again, data-inside, denies}
+use Rattle.laddertick.proofs.CallLaws as calls
+use Rattle.laddertick.proofs.Proved.{proved}
 use Rattle.laddertick.proofs.Starred.{starred}
+use Rattle.laddertick.proofs.Distinct.{distinct}
 
 -- a frame looks only at the bytes of its own unit, wherever they stand
 local : Local epl (List ℕ) frameOf
@@ -51,67 +76,101 @@ accepted≢refusal n p e = let z : _≡_ {A = ℕ} 0 1 = cc in omega arith
 walks : (s : List ℕ) → length s ≤ longest → Walks epl (List ℕ) frameOf origin s
 walks s short = whole epl reads (List ℕ) frameOf local s short origin
 
-normalising-of : (s : List ℕ) (ls : List FramedLabel) → Divides s ls → Normalising s ls
-normalising-of s ls d = record {
-  size = n .size;
-  accepted-alike = λ short.
-      let w = walks (normalised s) short in
-      let a = w .divides→accepted (n .vs) ls (n .division) (n .same-labels ∙ d .range) in
-      (w .answers, subst (Reach epl (normalised s) (stateOf fresh) (w .answers)) (a .0) (w .ends), a .1);
-  again = n .again;
-  divides = record { units = n .vs; division = n .division; range = n .same-labels ∙ d .range };
-  same-blocks = λ us vs p q. ap (each blocks) (unique epl reads refl q (n .division)) ∙ n .same-blocks ∙ ap (each blocks) (unique epl reads refl (d .division) p);
-}
-  where
-    n : Normal epl (List ℕ) frameOf normalised blocks origin s (d .units)
-    n = normal-text epl (List ℕ) frameOf normalised blocks normal (normalises (List ℕ) frameOf frame-local) origin (d .division)
+-- ---- a division in range, by its labels and by its numbers
+labelled : (s : List ℕ) (ls : List FramedLabel) (d : Divides s ls) → labelsOf epl (List ℕ) frameOf origin [] (d .units) ≡ labels ls
+labelled s ls d = in-range-labels (List ℕ) frameOf (d .division) origin [] (d .range) ∙ ap labels (d .found)
 
-demand-of : (s : List ℕ) → Walks epl (List ℕ) frameOf origin s → Demand3 s
-demand-of s w = record {
-  one-division = w .one-division;
-  answers = w .answers;
-  final = w .final;
-  reached = w .ends;
-  one-walk = w .one-walk;
-  divides-accepted = λ ls d. w .divides→accepted (d .units) ls (d .division) (d .range);
-  accepted-divides = divides;
-  else-refused = λ none. refused (w .final) refl none;
-  earliest = w .refused→fails;
-  normalising = normalising-of s;
-  lists-division = λ ls d. let a = w .divides→accepted (d .units) ls (d .division) (d .range) in outcome-is ∙ ap (λ (f : Final). ending f (answered epl (List ℕ) frameOf s [] (w .answers))) (a .0) ∙ ap listed (a .1);
-  lists-refusal = λ n p e. outcome-is ∙ ap (λ (f : Final). ending f (answered epl (List ℕ) frameOf s [] (w .answers))) e;
-}
-  where
-    outcome-is : outcomeOf s ≡ ending (w .final) (answered epl (List ℕ) frameOf s [] (w .answers))
-    outcome-is = reach-outcome epl reads (List ℕ) frameOf (w .ends)
+divided : (s : List ℕ) (ls : List FramedLabel) (us : List EplUnit) → Division epl s us → labelsOf epl (List ℕ) frameOf origin [] us ≡ labels ls → Divides s ls
+divided s ls us d e = let i = labels-in-range (List ℕ) frameOf d origin [] ls e in record { units = us; division = d; range = i .0; found = i .1 }
 
-    divides : w .final ≡ accepted → (ls : List FramedLabel) × Divides s ls
-    divides e = let i = w .accepted→divides e in (i .found, record { units = i .units; division = i .division; range = i .range })
+module _ (library : Library) where
+  -- what `normalise` does with any string within the limit
+  normal-gives : (s l : List ℕ) → length s ≤ longest → Gives (normalised s) l (library .normalise s l)
+  normal-gives s l short = calls.gives (format.dueOf s) l (library .normalise s l) (normalised s) (within-short longest s _ short) (library .normalises s l)
 
-    refused : (f : Final) → w .final ≡ f → ((ls : List FramedLabel) → Divides s ls → ⊥) → (n : ℕ) × (p : ℕ) × (w .final ≡ refusal n p)
-    refused accepted e none = let d = divides e in absurd (none (d .0) (d .1))
-    refused (refusal n p) e none = (n, p, e)
+  -- the theory's walk, by the code's answers
+  module _ (s : List ℕ) (short : length s ≤ longest) where
+    abbrev theWalk : Walks epl (List ℕ) frameOf origin s
+    theWalk = walks s short
 
--- ---- demand 1
-handing-refused : {R E P : Type 0} (g st : State R) (n p : ℕ) (a : Answer R E P) → handing g a ≡ step-of.refused n p st → st ≡ g
-unfolding handing
-handing-refused g st n p (step-of.element e q) h = let z : _≡_ {A = ℕ} 0 1 = cc in absurd (omega arith)
-handing-refused g st n p (step-of.cleared q) h = let z : _≡_ {A = ℕ} 0 1 = cc in absurd (omega arith)
-handing-refused g st n p (step-of.printed m o q) h = let z : _≡_ {A = ℕ} 0 1 = cc in absurd (omega arith)
-handing-refused g st n p (step-of.ended q) h = let z : _≡_ {A = ℕ} 0 1 = cc in absurd (omega arith)
-handing-refused g st n p (step-of.refused m q x) h = cc
+    abbrev byCode : (xs : List Step) × Walked (library .step s) fresh xs (theWalk .final) × (map answerOf xs ≡ theWalk .answers)
+    byCode = walked (library .step) (library .steps) s (theWalk .ends)
 
-tests-refused : (a b : Bool) (g st : State LabelPosition) (n p : ℕ) (x : Answer LabelPosition LabelElement Unit)
-    → cond a (step-of.refused 14 0 g) (cond b (step-of.refused 16 (g .place) g) (handing g x)) ≡ step-of.refused n p st → st ≡ g
-tests-refused true b g st n p x h = cc
-tests-refused false true g st n p x h = cc
-tests-refused false false g st n p x h = handing-refused g st n p x h
+    code-answered : theory.answered epl (List ℕ) frameOf s [] (theWalk .answers) ≡ answered s [] (byCode .0)
+    code-answered = ap (theory.answered epl (List ℕ) frameOf s []) (sym (byCode .2)) ∙ answered-is s [] (byCode .0)
 
-hands-back : (s : List ℕ) (g st : State LabelPosition) (n p : ℕ) → step epl s g ≡ step-of.refused n p st → st ≡ g
-unfolding step
-hands-back s g st n p h =
-    tests-refused (ltb longest (length s)) (ltb (length s) (g .place) || ltb (g .place) (g .pending)) g st n p (answer epl (drop (g .place) s) (g .place) (g .ref) (g .pending)) h
+    accepts : (ls : List FramedLabel) → Divides s ls → (theWalk .final ≡ accepted) × (answered s [] (byCode .0) ≡ ls)
+    accepts ls d = let a = theWalk .divides→accepted (d .units) ls (d .division) (labelled s ls d) in (a .0, sym code-answered ∙ a .1)
 
+  normalising-of : (s : List ℕ) (ls : List FramedLabel) → length s ≤ longest → Divides s ls → Normalising library s ls
+  normalising-of s ls short d = record {
+    text = normalised s;
+    gives = λ l. normal-gives s l short;
+    becomes = λ us c. becomes c;
+    size = n .size;
+    accepted-alike = λ k.
+        let a = accepts (normalised s) k ls alike in
+        let c = byCode (normalised s) k in
+        (c .0, subst (Walked (library .step (normalised s)) fresh (c .0)) (a .0) (c .1), a .1);
+    again = λ k l. subst (λ (t : List ℕ). Gives t l (library .normalise (normalised s) l)) (n .again) (normal-gives (normalised s) l k);
+    divides = alike;
+    same-blocks = λ us vs p q. ap (each blocks) (unique epl reads refl q (n .division)) ∙ n .same-blocks ∙ ap (each blocks) (unique epl reads refl (d .division) p);
+  }
+    where
+      n : Normal epl (List ℕ) frameOf normalised blocks origin s (d .units)
+      n = normal-text epl (List ℕ) frameOf normalised blocks normal (normalises (List ℕ) frameOf frame-local) origin (d .division)
+
+      alike : Divides (normalised s) ls
+      alike = divided (normalised s) ls (n .vs) (n .division) (n .same-labels ∙ labelled s ls d)
+
+  demand-of : (s : List ℕ) → length s ≤ longest → Demand3 library s
+  demand-of s short = record {
+    one-division = w .one-division;
+    answers = c .0;
+    final = w .final;
+    reached = c .1;
+    one-walk = λ ys f y. one-walked (library .step s) y (c .1);
+    accepted-exactly = ((λ e. let d = divides e .1 in (d .units, d .division, d .range)), λ x. accepts s short _ (record { units = x .0; division = x .1; range = x .2; found = refl }) .0);
+    divides-accepted = accepts s short;
+    accepted-divides = divides;
+    else-refused = λ none. refused (w .final) refl none;
+    earliest = λ n p. (to-earliest n p, of-earliest n p);
+    normalising = λ ls d. normalising-of s ls short d;
+    lists-division = λ ls d l. calls.gives (dueOf s) l (library .list s l) (listingOf ls) (ap listingDue (outcome-is ∙ (λ i. ending (accepts s short ls d .0 i) (as-listed ls d i)))) (library .lists s l);
+    lists-refusal = λ n p e l. denies (dueOf s) l (library .list s l) (ap listingDue (outcome-is ∙ ap (λ (f : Final). ending f (theory.answered epl (List ℕ) frameOf s [] (w .answers))) e)) (library .lists s l);
+  }
+    where
+      w : Walks epl (List ℕ) frameOf origin s
+      w = theWalk s short
+
+      c : (xs : List Step) × Walked (library .step s) fresh xs (w .final) × (map answerOf xs ≡ w .answers)
+      c = byCode s short
+
+      outcome-is : outcomeOf s ≡ ending (w .final) (theory.answered epl (List ℕ) frameOf s [] (w .answers))
+      outcome-is = reach-outcome epl reads (List ℕ) frameOf (w .ends)
+
+      as-listed : (ls : List FramedLabel) → Divides s ls → theory.answered epl (List ℕ) frameOf s [] (w .answers) ≡ ls
+      as-listed ls d = code-answered s short ∙ accepts s short ls d .1
+
+      divides : w .final ≡ accepted → (ls : List FramedLabel) × Divides s ls
+      divides e = let i = w .accepted→divides e in (i .found, divided s (i .found) (i .units) (i .division) (i .range))
+
+      refused : (f : Final) → w .final ≡ f → ((ls : List FramedLabel) → Divides s ls → ⊥) → (n : ℕ) × (p : ℕ) × (w .final ≡ refusal n p)
+      refused accepted e none = let d = divides e in absurd (none (d .0) (d .1))
+      refused (refusal n p) e none = (n, p, e)
+
+      to-earliest : (n p : ℕ) → w .final ≡ refusal n p → Earliest s 0 origin n p
+      to-earliest n p e = fails-earliest (List ℕ) frameOf (w .refused→fails n p e)
+
+      -- there is one at most, and none where the end is reached
+      of-earliest : (n p : ℕ) → Earliest s 0 origin n p → w .final ≡ refusal n p
+      of-earliest n p x = by (w .final) refl
+        where
+          by : (f : Final) → w .final ≡ f → f ≡ refusal n p
+          by accepted e = let d = divides e .1 in absurd (divides-no-earliest (d .division) (d .range) x)
+          by (refusal m q) e = let o = one-earliest (to-earliest m q e) x in λ i. refusal (o .0 i) (o .1 i)
+
+-- ---- demand 1: the numbers of refusals
 numbered-of : (k : Refusal) → (1 ≤ numberOf k) × (numberOf k ≤ 16)
 numbered-of TextFields = (omega arith, omega arith)
 numbered-of BarcodeFields = (omega arith, omega arith)
@@ -130,17 +189,71 @@ numbered-of InputTooLong = (omega arith, omega arith)
 numbered-of OutputTooShort = (omega arith, omega arith)
 numbered-of StateOutside = (omega arith, omega arith)
 
-pub claims : Claims
-claims = record {
+-- ---- demand 2
+-- "All others begin kind, x, y"
+begins-of : (s : List ℕ) (e : LabelElement) → take 9 (frameOf s e) ≡ head (kindOf e) (placeOf e)
+unfolding be32 head drawn plain ratioed frameOf
+begins-of s (element.Text e) = refl
+begins-of s (element.GraphicBox e) = refl
+begins-of s (element.DiagonalLine e) = refl
+begins-of s (element.GraphicField e) = refl
+begins-of s (element.Barcode128 e) = refl
+begins-of s (element.BarcodeEan13 e) = refl
+begins-of s (element.BarcodeEan8 e) = refl
+begins-of s (element.BarcodeUca e) = refl
+begins-of s (element.Barcode2of5 e) = refl
+begins-of s (element.Barcode39 e) = refl
+begins-of s (element.BarcodePdf417 e) = refl
+begins-of s (element.BarcodeAztec e) = refl
+begins-of s (element.BarcodeDatamatrix e) = refl
+begins-of s (element.BarcodeQr e) = refl
+begins-of s (element.Maxicode e) = refl
+begins-of s (element.BarcodeUcpe e) = refl
+
+ill-lines : (t : List ℕ) (n : ℕ) → ((wellFormed t ≡ false) × (faultOf t ≡ n)) ↔ LineFault t n
+ill-lines t n = ((λ h. subst (LineFault t) (h .1) (ill-has-fault t (h .0))), fault-is-ill t)
+
+claims : (library : Library) → Claims library
+claims library = record {
+  limit = refl;
+  start = refl;
   demand1 = record {
-    step-hands-back = λ s st st′ n p h. hands-back s st st′ n p h;
-    fill-keeps = λ n l d k p w. fills-kept d w;
-    data-inside = data-inside;
+    step-hands-back = step-hands-back library;
+    list-keeps = list-keeps library;
+    normalise-keeps = normalise-keeps library;
+    long-step = long-step library;
+    long-list = long-list library;
+    long-normalise = long-normalise library;
+    outside = outside library;
+    inside = calls.inside library;
+    ended-again = ended-again library;
+    data-inside = data-inside library;
     numbered = numbered-of;
   };
-  demand2 = record { ill-formed = ill-formed; well-formed = well-formed-range; blanks = code-points-trim; widths = width-exact; starred = starred };
-  demand3 = λ s short. demand-of s (walks s short);
+  demand2 = record {
+    spelled = spelled;
+    line-faults = ill-lines;
+    faults = faults;
+    in-range = in-range;
+    out-of-range = out-of-range;
+    shape = shape;
+    begins = begins-of;
+    numbers = number-fields;
+    ill-formed = ill-formed;
+    well-formed = well-formed-range;
+    blanks = code-points-trim;
+    widths = width-exact;
+    starred = starred;
+    distinct = distinct;
+  };
+  demand3 = demand-of library;
+  block-bytes = block-bytes;
+  line-blocks = line-blocks;
+  flat = record { frame = flat-frame; next = flat-next; clear = λ st. refl; end = λ st. refl };
   room = length-listing-le;
   normalised-room = length-normalised-le;
   never-15 = never-short;
 }
+
+pub theorem : Theorem
+theorem = record { proved = proved; claims = claims }

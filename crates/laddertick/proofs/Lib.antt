@@ -1,3 +1,13 @@
+-- the tables of computed cases
 pub mod Starred
+pub mod Distinct
+-- data lies inside
 pub mod InsideLaws
+-- the walk by a function that meets the contract of `step`
+pub mod WalkedLaws
+-- demand 1, and what a call gives by what is due to it
+pub mod CallLaws
+-- the code
+pub mod Proved
+-- the claims
 pub mod Claims

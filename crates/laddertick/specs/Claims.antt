@@ -1,114 +1,190 @@
--- What is claimed of the walk, of normalised text and of the listing, for every byte string of at most 16,777,216 bytes. Read first; each name leads to its
--- definition. Quoted words are those of the three demands, or of 01.
+-- What is claimed of the entry points `step`, `list` and `normalise`: of any functions that meet their contracts (`Library`), as the code is proved to (`Proved`).
+-- Read first; each name leads to its definition. Quoted words are those of the three demands, or of 01.
 use mathlib.Core.Path.{_≡_}
 use mathlib.Core.Bool.{true, false}
-use mathlib.Core.List.{List, []}
+use mathlib.Core.List.{List, [], _∷_, _++_}
+use mathlib.Core.Logic.{_↔_}
 use Prim.Native.Nat.{ℕ, _+_, _*_, _/_, _^_, _≤_, _<_}
-use lib.IntN.{pos}
+use lib.IntN.{ℤ, pos}
 use lib.Ieee.{binary64, ofInt}
-use lib.ListN.{length}
+use lib.ListN.{length, take}
 use Rattle.text.specs.Blank.{dropBoth, isWhiteSpace, trim}
 use Rattle.text.specs.Utf8.{codePoints}
+use Rattle.numbers.specs.Number.{fieldOr}
 use Rattle.texts.specs.Font.{widthOf}
+use Rattle.elements.specs.declared.filled.Filled.the-variants as filled
 use Rattle.elements.specs.declared.LabelElement.{LabelElement}
 use Rattle.elements.specs.declared.LabelPosition.{LabelPosition}
 use Rattle.elements.specs.declared.refusal.Refusal.{Refusal}
 use Rattle.elements.specs.declared.refusal.Refusal.the-variants.{OutOfRange}
+use Rattle.elements.specs.declared.walk_state.WalkState.{WalkState}
 use Rattle.elements.specs.Refusals.{numberOf}
 use Rattle.elements.specs.Spans.{In}
-use Rattle.element_frames.specs.Frame.{frameOf}
-use Rattle.parameters.specs.declared.reading.Reading.the-variants.{Refused}
-use Rattle.commands.specs.Line.{readLine}
-use Rattle.whole.specs.Division.{Division}
-use Rattle.whole.specs.Labels.{labels, labelsOf, Fails}
-use Rattle.whole.specs.Step.{State, Answer, element, refused, step, longest}
-use Rattle.whole.specs.Reach.{Final, accepted, refusal, Reach, answered}
-use Rattle.whole.specs.Trace.{listed, refusal-of}
-use Rattle.whole.specs.Normal.{each}
-use Rattle.whole.specs.Given.{Due, Fills}
-use Rattle.whole.specs.Given as given
-use Rattle.grammar.specs.WellFormed.{wellFormed, faultOf}
-use Rattle.grammar.specs.Units.{EplUnit}
-use Rattle.grammar.specs.Epl.{origin, epl}
-use Rattle.grammar.specs.Normal.{blocks, normalised}
 use Rattle.elements.specs.Walk.{fresh}
-use Rattle.walk.specs.Steps.{stateOf}
+use Rattle.element_frames.specs.Frame.{head, frameOf}
+use Rattle.parameters.specs.declared.reading.Reading.the-variants as reading
+use Rattle.spelling.specs.declared.command.Command.{Command}
+use Rattle.spelling.specs.Command.{commandOf}
+use Rattle.commands.specs.Line.{readLine}
+use Rattle.whole.specs.Language.{bad, yield, outside}
+use Rattle.whole.specs.Division.{Division}
+use Rattle.whole.specs.Step.{State, Answer, cleared, ended, refused, longest}
+use Rattle.whole.specs.Reach.{Final, accepted, refusal}
+use Rattle.whole.specs.Trace.{listed}
+use Rattle.whole.specs.Normal.{each}
+use Rattle.grammar.specs.Ascii.{spelt}
+use Rattle.grammar.specs.WellFormed.{wellFormed, faultOf}
+use Rattle.grammar.specs.Units.{Header, EplUnit, block, line, last, Stands}
+use Rattle.grammar.specs.Found.{first}
+use Rattle.grammar.specs.Epl.{origin, acts, epl}
+use Rattle.grammar.specs.Spelled.{Spells}
+use Rattle.grammar.specs.Ranges.{AllFit, OneOut, sizesOf, refAfter, InRange, roleOf, Does}
+use Rattle.grammar.specs.Shapes.{kindOf, placeOf, Shape}
+use Rattle.grammar.specs.NumberField.{NumberField}
+use Rattle.grammar.specs.LineFaults.{LineFault}
+use Rattle.grammar.specs.Faults.{Fault}
+use Rattle.grammar.specs.Divided.{labelsBy, Earliest}
+use Rattle.grammar.specs.Becomes.{Becomes}
+use Rattle.grammar.specs.Normal.{blocks, normalised}
+use Rattle.walk.specs.declared.answer.Step.{Step}
+use Rattle.walk.specs.declared.answer.Step.the-variants.{Element, End, Refused}
+use Rattle.walk.specs.Steps.{stateOf, answerOf}
+use Rattle.flat.specs.Steps.{flatOf}
+use Rattle.flat.specs.Frames.{frameFlat, answerFrame, stateIn}
 use Rattle.frames.specs.Listing.{FramedLabel, listingOf, outcomeOf, dueOf}
 use Rattle.frames.specs.Printing.{printedOf, shownOf}
-use Rattle.laddertick.specs.Starred.{Holds, table}
+use Rattle.laddertick.specs.Contracts.{Library, Denies, Gives}
+use Rattle.laddertick.specs.Proved.{Proved}
+use Rattle.laddertick.specs.Walked.{Walked, answered, Outside}
+use Rattle.laddertick.specs.Table.{Holds}
+use Rattle.laddertick.specs.Starred as starred
+use Rattle.laddertick.specs.Distinct as distinct
 
 -- "the string divides end to end into graphic blocks and command lines by 01's grammar with every position and size within signed 32 bits", and has these labels
 pub record Divides (s : List ℕ) (ls : List FramedLabel) : Type 0 where
   pub units : List EplUnit
   pub division : Division epl s units
-  pub range : labelsOf epl (List ℕ) frameOf origin [] units ≡ labels ls
-
--- the normalised text of a string that divides and has these labels; `normalise` of the crate `format` is proved to write `normalised s`
-pub record Normalising (s : List ℕ) (ls : List FramedLabel) : Type 0 where
-  -- "The normalised text of an accepted string of n bytes has at most n + n/6 + 1 bytes"
-  pub size : length (normalised s) ≤ length s + length s / 6 + 1
-  -- "if it too is within the limit it is accepted with the same labels": the steps over it reach the end, and these are the labels answered
-  pub accepted-alike : length (normalised s) ≤ longest
-      → (xs : List (Answer LabelPosition LabelElement Unit)) × Reach epl (normalised s) (stateOf fresh) xs accepted × (answered epl (List ℕ) frameOf (normalised s) [] xs ≡ ls)
-  -- "normalising it again changes nothing"
-  pub again : normalised (normalised s) ≡ normalised s
-  -- "accepted with the same labels", by its division
-  pub divides : Divides (normalised s) ls
-  -- "its graphic blocks are the string's, byte for byte, in order and no others"
-  pub same-blocks : (us vs : List EplUnit) → Division epl s us → Division epl (normalised s) vs → each blocks vs ≡ each blocks us
-
--- the whole walk of s from the fresh state, each step given the state that the last one returned; `step` of the crate `walk` is proved equal to `step epl`
-pub record Demand3 (s : List ℕ) : Type 0 where
-  -- "No string divides in two ways"
-  pub one-division : (us vs : List EplUnit) → Division epl s us → Division epl s vs → us ≡ vs
-  -- the steps reach an end, the end of the string or a refusal, and no other
-  pub answers : List (Answer LabelPosition LabelElement Unit)
-  pub final : Final
-  pub reached : Reach epl s (stateOf fresh) answers final
-  pub one-walk : (ys : List (Answer LabelPosition LabelElement Unit)) (f : Final) → Reach epl s (stateOf fresh) ys f → (ys ≡ answers) × (f ≡ final)
-  -- "the steps reach the end exactly when the string divides"; "It is then accepted and the labels answered are those of its division"
-  pub divides-accepted : (ls : List FramedLabel) → Divides s ls → (final ≡ accepted) × (answered epl (List ℕ) frameOf s [] answers ≡ ls)
-  pub accepted-divides : final ≡ accepted → (ls : List FramedLabel) × Divides s ls
-  -- "otherwise the steps reach a refusal"
-  pub else-refused : ((ls : List FramedLabel) → Divides s ls → ⊥) → (n : ℕ) × (p : ℕ) × (final ≡ refusal n p)
-  -- of the earliest refused unit: at fault as it stands, or out of range
-  pub earliest : (n p : ℕ) → final ≡ refusal n p → Fails epl (List ℕ) frameOf s 0 origin [] n p
-  pub normalising : (ls : List FramedLabel) → Divides s ls → Normalising s ls
-  -- what `list` writes, by its contract (`Fills` with `dueOf`, in the crate `frames`), is the listing of the division's labels, or that refusal
-  pub lists-division : (ls : List FramedLabel) → Divides s ls → outcomeOf s ≡ listed ls
-  pub lists-refusal : (n p : ℕ) → final ≡ refusal n p → outcomeOf s ≡ refusal-of n p
+  -- every unit's numbers fit at the reference that stands there
+  pub range : InRange origin units
+  pub found : labelsBy frameOf origin [] units ≡ ls
 
 -- demand 1, refusals: a refused call leaves the state and every lent buffer as they came, and has a number of 01. (That memory is touched only inside its
--- ends and that every call returns is what a proof of a Rattle function says of every call; no entry point has a `requires`.)
-pub record Demand1 : Type 0 where
-  -- `step`, by its contract `answerOf r ≡ step epl s (stateOf st)`
-  pub step-hands-back : (s : List ℕ) (st st′ : State LabelPosition) (n p : ℕ) → step epl s st ≡ refused n p st′ → st′ ≡ st
-  -- `list`, `normalise` and `laddertick_data`, by their contract `Fills`: whatever is due, where a refusal is given back the buffer l is as it came
-  pub fill-keeps : (n l : List ℕ) (d : Due) (k p : ℕ) → Fills n l d (given.refused k p) → n ≡ l
+-- ends and that every call returns is what `Proved` says of every call; no entry point has a `requires`.)
+pub record Demand1 (library : Library) : Type 0 where
+  -- "A refused walk step hands its state back"
+  pub step-hands-back : (s : List ℕ) (w w′ : WalkState) (k : Refusal) (p : ℕ) → library .step s w ≡ Refused k p w′ → w′ ≡ w
+  -- "a refused call leaves each lent buffer byte for byte as it came"
+  pub list-keeps : (s l : List ℕ) (k : Refusal) (p : ℕ) → library .list s l .answer ≡ filled.Refused k p → library .list s l .buffer ≡ l
+  pub normalise-keeps : (s l : List ℕ) (k : Refusal) (p : ℕ) → library .normalise s l .answer ≡ filled.Refused k p → library .normalise s l .buffer ≡ l
+  -- "14 input over 16,777,216 bytes (place 0)", whatever the state and the buffer: "Order: 14, .."
+  pub long-step : (s : List ℕ) (w : WalkState) → longest < length s → answerOf (library .step s w) ≡ refused 14 0 (stateOf w)
+  pub long-list : (s l : List ℕ) → longest < length s → Denies 14 0 l (library .list s l)
+  pub long-normalise : (s l : List ℕ) → longest < length s → Denies 14 0 l (library .normalise s l)
+  -- ".. 16 ..": "walk state with its place past the end, or its pending count above its place (place: as given)", whatever the string says
+  pub outside : (s : List ℕ) (w : WalkState) → length s ≤ longest → Outside s w → answerOf (library .step s w) ≡ refused 16 (w .place) (stateOf w)
+  -- ".. then the earliest refused line": from any other state a refusal is one of 1 to 13
+  pub inside : (s : List ℕ) (w : WalkState) → length s ≤ longest → (Outside s w → ⊥) → (k : Refusal) (p : ℕ) (w′ : WalkState) → library .step s w ≡ Refused k p w′ → (1 ≤ numberOf k) × (numberOf k ≤ 13)
+  -- "then the end is answered, again and again", with the same state
+  pub ended-again : (s : List ℕ) (w w′ : WalkState) → library .step s w ≡ End w′ → library .step s w′ ≡ End w′
   -- the data that a step answers lies within the input, so that a host which reads it stays inside what it lent
-  pub data-inside : (s : List ℕ) (st st′ : State LabelPosition) (e : LabelElement) → step epl s st ≡ element e st′ → In (length s) e
+  pub data-inside : (s : List ℕ) (w w′ : WalkState) (e : LabelElement) → library .step s w ≡ Element e w′ → In (length s) e
   pub numbered : (k : Refusal) → (1 ≤ numberOf k) × (numberOf k ≤ 16)
 
--- demand 2: the command forms. A line's reader is `readLine` (crate `commands`, Line), a block's `gwSpan` (`graphics`, Block), frames are `frameOf`
--- (`element_frames`, Frame); the code's readers are proved equal to them
+-- demand 2: the command forms, from 01's words. The definitions that the code's readers are proved equal to (`commandOf`, `wellFormed`, `first`, `acts`, `fieldOr`)
+-- say the same
 pub record Demand2 : Type 0 where
+  -- which command a line spells, which line is not well formed, what is wrong with what stands first
+  pub spelled : (t : List ℕ) (c : Command) → (commandOf t ≡ c) ↔ Spells c t
+  pub line-faults : (t : List ℕ) (n : ℕ) → ((wellFormed t ≡ false) × (faultOf t ≡ n)) ↔ LineFault t n
+  pub faults : (s : List ℕ) (n : ℕ) → (first s ≡ bad n) ↔ Fault s n
+  -- a unit that stands does what its command says where its numbers fit at the reference, and is 13 where one does not
+  pub in-range : (r : LabelPosition) (u : EplUnit) (rest : List ℕ) → Stands u rest → AllFit (sizesOf r u) → Does (roleOf u) r (refAfter r u) (acts r u)
+  pub out-of-range : (r : LabelPosition) (u : EplUnit) (rest : List ℕ) → Stands u rest → OneOut (sizesOf r u) → acts r u ≡ outside 13
+  -- what it yields is of the kind that its command and type have, and stands where the sums say; a frame begins so
+  pub shape : (r : LabelPosition) (u : EplUnit) (rest : List ℕ) (e : LabelElement) → Stands u rest → acts r u ≡ yield e → Shape r u e
+  pub begins : (s : List ℕ) (e : LabelElement) → take 9 (frameOf s e) ≡ head (kindOf e) (placeOf e)
+  -- "A number field .."
+  pub numbers : (d : ℤ) (f : List ℕ) (z : ℤ) → (fieldOr d f ≡ z) ↔ NumberField d f z
   -- the reader of a line refuses 1 to 9 exactly where the line is not well formed, with 01's number; a well-formed one it refuses only as 13
-  pub ill-formed : (t : List ℕ) (r : LabelPosition) → wellFormed (trim t) ≡ false → (n : Refusal) × (readLine t r ≡ Refused n) × (numberOf n ≡ faultOf (trim t))
-  pub well-formed : (t : List ℕ) (r : LabelPosition) (n : Refusal) → wellFormed (trim t) ≡ true → readLine t r ≡ Refused n → n ≡ OutOfRange
+  pub ill-formed : (t : List ℕ) (r : LabelPosition) → wellFormed (trim t) ≡ false → (n : Refusal) × (readLine t r ≡ reading.Refused n) × (numberOf n ≡ faultOf (trim t))
+  pub well-formed : (t : List ℕ) (r : LabelPosition) (n : Refusal) → wellFormed (trim t) ≡ true → readLine t r ≡ reading.Refused n → n ≡ OutOfRange
   -- "Unicode blanks (White_Space: ..)": trimming bytes takes the code points of 01's list off both ends of the decoded text
   pub blanks : (t : List ℕ) → codePoints (trim t) ≡ dropBoth isWhiteSpace (codePoints t)
   -- "A product below 2^53 gives the width exactly"
   pub widths : (height across : ℕ) → 0 < height → 0 < across → height * across < 2 ^ 53 → widthOf (pos height) (pos across) ≡ ofInt binary64 (pos across)
-  -- 01's starred cases
-  pub starred : Holds table
+  -- 01's starred cases; and a file for each command and type with all its fields distinct, with the lines that `list` writes, character by character
+  pub starred : Holds starred.table
+  pub distinct : Holds distinct.table
 
-pub record Claims : Type 0 where
-  pub demand1 : Demand1
+-- the normalised text of a string that divides and has these labels
+pub record Normalising (library : Library) (s : List ℕ) (ls : List FramedLabel) : Type 0 where
+  -- "the normaliser writes it where the buffer has room, and 15 gives its length where not"
+  pub text : List ℕ
+  pub gives : (l : List ℕ) → Gives text l (library .normalise s l)
+  -- it is "that under format.rs": unit by unit, a line without the ASCII blanks at its ends, a block copied whole, an LF behind each
+  pub becomes : (us : List EplUnit) → Division epl s us → Becomes us text
+  -- "The normalised text of an accepted string of n bytes has at most n + n/6 + 1 bytes"
+  pub size : length text ≤ length s + length s / 6 + 1
+  -- "if it too is within the limit it is accepted with the same labels": the steps over it reach the end, and these are the labels answered
+  pub accepted-alike : length text ≤ longest → (xs : List Step) × Walked (library .step text) fresh xs accepted × (answered text [] xs ≡ ls)
+  -- "normalising it again changes nothing"
+  pub again : length text ≤ longest → (l : List ℕ) → Gives text l (library .normalise text l)
+  -- "accepted with the same labels", by its division
+  pub divides : Divides text ls
+  -- "its graphic blocks are the string's, byte for byte, in order and no others"
+  pub same-blocks : (us vs : List EplUnit) → Division epl s us → Division epl text vs → each blocks vs ≡ each blocks us
+
+-- the whole walk of s from the fresh state, each step given the state that the last one returned
+pub record Demand3 (library : Library) (s : List ℕ) : Type 0 where
+  -- "No string divides in two ways"
+  pub one-division : (us vs : List EplUnit) → Division epl s us → Division epl s vs → us ≡ vs
+  -- the steps reach an end, the end of the string or a refusal, and no other
+  pub answers : List Step
+  pub final : Final
+  pub reached : Walked (library .step s) fresh answers final
+  pub one-walk : (ys : List Step) (f : Final) → Walked (library .step s) fresh ys f → (ys ≡ answers) × (f ≡ final)
+  -- "the steps reach the end exactly when the string divides end to end .. with every position and size within signed 32 bits"
+  pub accepted-exactly : (final ≡ accepted) ↔ ((us : List EplUnit) × Division epl s us × InRange origin us)
+  -- "It is then accepted and the labels answered are those of its division"
+  pub divides-accepted : (ls : List FramedLabel) → Divides s ls → (final ≡ accepted) × (answered s [] answers ≡ ls)
+  pub accepted-divides : final ≡ accepted → (ls : List FramedLabel) × Divides s ls
+  -- "otherwise the steps reach a refusal"
+  pub else-refused : ((ls : List FramedLabel) → Divides s ls → ⊥) → (n : ℕ) × (p : ℕ) × (final ≡ refusal n p)
+  -- of the earliest refused unit: at fault as it stands, or with a number outside 32 bits
+  pub earliest : (n p : ℕ) → (final ≡ refusal n p) ↔ Earliest s 0 origin n p
+  pub normalising : (ls : List FramedLabel) → Divides s ls → Normalising library s ls
+  -- `list` writes the listing of the division's labels, and 15 comes last; or it refuses as the walk does, whatever the buffer
+  pub lists-division : (ls : List FramedLabel) → Divides s ls → (l : List ℕ) → Gives (listingOf ls) l (library .list s l)
+  pub lists-refusal : (n p : ℕ) → final ≡ refusal n p → (l : List ℕ) → Denies n p l (library .list s l)
+
+-- the flat answers of the static library, a : what `step` answers
+pub record Flat : Type 0 where
+  -- an answer of `laddertick_step` rebuilt to 01's frame from its fields alone: an element's, a print's, a refusal's; and the state for the next step
+  pub frame : (s : List ℕ) (a : Answer LabelPosition LabelElement Unit) → frameFlat s (flatOf a) ≡ answerFrame s a
+  pub next : (a : Answer LabelPosition LabelElement Unit) → stateOf (flatOf a .next) ≡ stateIn a
+  -- what has no frame is told by its kind
+  pub clear : (st : State LabelPosition) → flatOf (cleared st) .kind ≡ 17
+  pub end : (st : State LabelPosition) → flatOf (ended st) .kind ≡ 18
+
+pub record Claims (library : Library) : Type 0 where
+  -- "inputs up to 16,777,216 bytes"; "the fresh state is place 0, reference 0,0, pending count 0"
+  pub limit : longest ≡ 16777216
+  pub start : fresh ≡ record { place = 0; reference = record { x = pos 0; y = pos 0 }; pending = 0 }
+  pub demand1 : Demand1 library
   pub demand2 : Demand2
   -- demand 3, whole
-  pub demand3 : (s : List ℕ) → length s ≤ longest → Demand3 s
+  pub demand3 : (s : List ℕ) → length s ≤ longest → Demand3 library s
+  -- a graphic block is its bytes, blanks, `GW`, four fields and payload; a line has none
+  pub block-bytes : (bs p : List ℕ) (h : Header) → blocks (block bs h p) ≡ (bs ++ spelt "GW" (h .x ++ spelt "," (h .y ++ spelt "," (h .width ++ spelt "," (h .lines ++ spelt "," p))))) ∷ []
+  pub line-blocks : (t : List ℕ) → (blocks (line t) ≡ []) × (blocks (last t) ≡ [])
+  pub flat : Flat
   -- the listing program's buffer always has room: no listing has more than 16 bytes for each byte of its input, and 15 is never printed
   pub room : (s : List ℕ) (ls : List FramedLabel) → outcomeOf s ≡ listed ls → length (listingOf ls) ≤ 16 * length s
   -- n + n/6 + 1 bytes have room for the normalised text of any string of n bytes, also of one that is refused
   pub normalised-room : (s : List ℕ) → length (normalised s) ≤ length s + length s / 6 + 1
-  pub never-15 : (s : List ℕ) → length s ≤ 65536 → printedOf s 1048576 ≡ shownOf (dueOf s)
+  pub never-15 : (s : List ℕ) → length s ≤ 65536 → printedOf s (16 * 65536) ≡ shownOf (dueOf s)
+
+-- the code is proved to meet its contracts, and whatever meets them has all of the above
+pub record Theorem : Type 2 where
+  pub proved : Proved
+  pub claims : (library : Library) → Claims library

@@ -1,4 +1,11 @@
 -- what is claimed: read first
 pub mod Claims
--- 01, "Corners": the starred cases
+-- what the entry points promise; the walk of a function that meets it
+pub mod Contracts
+pub mod Walked
+-- the code, and the contracts that it is proved to meet
+pub mod Proved
+-- tables of computed cases: 01, "Corners", the starred ones; each command and type with distinct fields
+pub mod Table
 pub mod Starred
+pub mod Distinct

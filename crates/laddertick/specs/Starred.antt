@@ -1,12 +1,7 @@
--- The starred cases of 01 ("Corners") and its worked example ("Frames"): a table of inputs, each with all that the steps answer from the fresh state on,
--- up to and including the end or the refusal, or with its normalised text. `starred` (proofs/Starred.antt): every row holds.
-use mathlib.Core.Path.{_≡_}
+-- The starred cases of 01 ("Corners") and its worked example ("Frames"). `starred` (proofs/Starred.antt): every row holds.
 use mathlib.Core.Bool.{Bool, true, false}
 use mathlib.Core.List.{List, [], _∷_}
-use Prim.Native.Char.{code}
-use Prim.Native.Nat.{ℕ, zero, suc}
-use Prim.Native.String.{String}
-use Prim.Native.String as string
+use Prim.Native.Nat.{ℕ}
 use lib.Ieee.{Float, binary64, ofInt}
 use lib.IntN.{pos, negsuc}
 use Rattle.elements.specs.declared.FieldOrientation.the-variants.{Normal}
@@ -14,62 +9,11 @@ use Rattle.elements.specs.declared.LabelElement.{LabelElement}
 use Rattle.elements.specs.declared.LabelElement.the-variants.{Text, GraphicBox, DiagonalLine, GraphicField}
 use Rattle.elements.specs.declared.LabelPosition.{LabelPosition}
 use Rattle.elements.specs.declared.LineColor.the-variants.{Black}
-use Rattle.whole.specs.Step.{State, state, Answer, element, cleared, printed, ended, refused, step}
-use Rattle.whole.specs.Trace.{left}
-use Rattle.grammar.specs.Epl.{origin, epl}
-use Rattle.grammar.specs.Normal.{normalised}
-use Rattle.elements.specs.Walk as walk
-use Rattle.walk.specs.Steps as steps
-
-abbrev pub EplState : Type 0
-EplState = State LabelPosition
-
-abbrev pub EplAnswer : Type 0
-EplAnswer = Answer LabelPosition LabelElement Unit
-
-abbrev pub fresh : EplState
-fresh = steps.stateOf walk.fresh
-
--- an answer, and behind it those from the state that it returned; the end and a refusal are the last
-abbrev pub onward : (EplState → List EplAnswer) → EplAnswer → List EplAnswer
-onward go (element e st) = element e st ∷ go st
-onward go (cleared st) = cleared st ∷ go st
-onward go (printed n q st) = printed n q st ∷ go st
-onward go (ended st) = ended st ∷ []
-onward go (refused n p st) = refused n p st ∷ []
-
--- what k steps answer at most, each given the state that the last one returned
-abbrev pub answersOf : ℕ → List ℕ → EplState → List EplAnswer
-answersOf zero s st = []
-answersOf (suc k) s st = onward (λ st′. answersOf k s st′) (step epl s st)
-
--- all answers to an input: `left` falls at each step
-abbrev pub answers : List ℕ → List EplAnswer
-answers s = answersOf (suc (left s fresh)) s fresh
-
--- an input with all that is answered to it, or with its normalised text
-pub data Case : Type 0 where
-  says : List ℕ → List EplAnswer → Case
-  becomes : List ℕ → List ℕ → Case
-
--- every row of a table holds
-abbrev pub Holds : List Case → Type 0
-Holds [] = Unit
-Holds (says s xs ∷ cs) = (answers s ≡ xs) × Holds cs
-Holds (becomes s t ∷ cs) = (normalised s ≡ t) × Holds cs
+use Rattle.whole.specs.Step.{state, element, cleared, printed, ended, refused}
+use Rattle.grammar.specs.Epl.{origin}
+use Rattle.laddertick.specs.Table.{EplAnswer, fresh, Case, case, normal, listing}
 
 -- How the rows are written:
-
--- the bytes of a text of ASCII characters
-abbrev ascii : String → List ℕ
-ascii string.[] = []
-ascii (string._∷_ c s) = code c ∷ ascii s
-
-abbrev case : String → List EplAnswer → Case
-case s said = says (ascii s) said
-
-abbrev normal : String → String → Case
-normal s t = becomes (ascii s) (ascii t)
 
 -- the end, at n, with k elements pending at the reference 0,0
 abbrev closes : ℕ → ℕ → List EplAnswer
@@ -118,6 +62,8 @@ table =
     ∷ case "R1,2\nR7," (ended (state 8 (point 7 0) 0) ∷ [])
     ∷ case "R1,2\nR7,2,3" (ended (state 11 (point 7 0) 0) ∷ [])
     ∷ case "R1,2\nR-1" (ended (state 8 (point 1 2) 0) ∷ [])
+    -- "`N` alone drops pending elements and sets the reference to 0,0."
+    ∷ case "R1,2\nLO1,2,3,4\nN\nLO1,2,3,4" (element (box (point 2 4) 3 4 3) (state 15 (point 1 2) 1) ∷ cleared (state 17 origin 0) ∷ alone 26 (box (point 1 2) 3 4 3))
     -- "`P1,1` isn't a print line.": the end prints both boxes as one label, where `P1` prints the first before the second is read
     ∷ case "LO1,2,3,4\nP1,1\nLO5,6,7,8\n" (element (box (point 1 2) 3 4 3) (state 10 origin 1) ∷ element (box (point 5 6) 7 8 7) (state 25 origin 2) ∷ closes 25 2)
     ∷ case "LO1,2,3,4\nP1\nLO5,6,7,8\n" (element (box (point 1 2) 3 4 3) (state 10 origin 1) ∷ printed 1 tt (state 13 origin 0) ∷ alone 23 (box (point 5 6) 7 8 7))
@@ -146,6 +92,9 @@ table =
     ∷ normal "GW0,0,1,1," "GW0,0,1,1,\n"
     -- "hexadecimal 0b before `GW` stays; one left empty is dropped"
     ∷ normal "\u{b}GW,,,, \n \t\n" "\u{b}GW,,,,\n"
+    -- "every other line, and every block, copied whole, is followed by one LF"
+    ∷ normal " GW1,2,1,3,a\n N\n" " GW1,2,1,3,a\n \nN\n"
     -- the worked example: "`R10,20`, `LO5,6,30,4`, `P1`, each with LF"
     ∷ case "R10,20\nLO5,6,30,4\nP1\n" (element (box (point 15 26) 30 4 4) (state 18 (point 10 20) 1) ∷ printed 1 tt (state 21 (point 10 20) 0) ∷ ended (state 21 (point 10 20) 0) ∷ [])
+    ∷ listing "R10,20\nLO5,6,30,4\nP1\n" "0000000001\n020000000f0000001a0000001e000000040000000400\n"
     ∷ []

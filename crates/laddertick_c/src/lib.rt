@@ -9,17 +9,16 @@ ghost use Rattle.format.specs.Normalise as normalise;
 ghost use Rattle.frames.specs.Listing as listing;
 ghost use Rattle.elements.specs.Walk.{fresh};
 ghost use Rattle.walk.specs.Steps.{stateOf};
-ghost use Rattle.laddertick_c.specs.Steps.{flatOf};
+ghost use Rattle.flat.specs.Steps.{flatOf};
 
-pub mod steps;
 pub mod written;
 
-use crate::steps::flat_step;
 use crate::written::of_filled;
 use decoding::data::decode;
 use decoding::written::Written;
 use elements::DataSpan;
 use flat::answer::Answer;
+use flat::steps::flat_step;
 use laddertick::WalkState;
 use laddertick::list;
 use laddertick::normalise;

@@ -1,21 +1,32 @@
-// The listing program: standard input to frames, one a line. Its buffer holds 16 bytes for each byte that it reads, which is always enough (`never-short`).
+// The listing program: standard input to frames, one a line.
+ghost use Rattle.frames.specs.Listing.{dueOf};
+ghost use Rattle.frames.specs.Printing.{Shows};
 use element_frames::data::part;
 use elements::DataSpan;
+use frames::printing::PROGRAM_MAX;
 use frames::printing::print_listing;
+use numbers::blank::first;
+
+// One byte more than an input may have, to tell one that is too long.
+const READ: usize = PROGRAM_MAX + 1;
+// A listing has at most 16 bytes for each byte of its input, so 15 is never printed.
+const ROOM: usize = 16 * PROGRAM_MAX;
 
 fn main() {
-    let mut input = [0u8; 65537];
-    let mut out = [0u8; 1048576];
+    let mut input = [0u8; READ];
+    let mut out = [0u8; ROOM];
     run(&mut input, &mut out);
 }
 
-fn run(input: &mut [u8; 65537], out: &mut [u8; 1048576]) {
-    all(input, out);
+fn run(input: &mut [u8; READ], out: &mut [u8; ROOM]) {
+    let n = io::read_full(0, input);
+    let k = show(input, n, out);
+    io::write_all(1, part(out, DataSpan { start: 0, len: k }));
 }
 
-// One byte more than 65,536 is read, to tell an input that is too long.
-fn all(input: &mut [u8], out: &mut [u8]) {
-    let n = io::read_full(0, input);
-    let k = print_listing(&input[..n], out);
-    io::write_all(1, part(out, DataSpan { start: 0, len: k }));
+// The bytes to print, from the start of out, where n bytes of standard input were read. Gives their number.
+fn show(input: &[u8; READ], n: usize, out: &mut [u8; ROOM]) -> usize
+    ensures { λ r. ⌜ Shows dueOf (now (input .entry)) n (now (out .exit)) r ⌝ }
+{
+    print_listing(first(input, n), out)
 }

@@ -1,13 +1,24 @@
--- A buffer of two bytes for each of 65,536 is never too short. Assumes nothing.
-use mathlib.Core.Path.{_≡_}
+-- What the normaliser's program prints, whatever was read, is the normalised text: its buffer is never too short. Assumes nothing.
+use mathlib.Core.Path.{_≡_, ap}
 use mathlib.Core.List.{List}
-use Prim.Native.Nat.{ℕ, _≤_}
+use Prim.Native.Nat.{ℕ, _+_, _/_, _≤_}
 use native.Mathlib.Omega.{arith}
 use lib.ListN.{length}
-use borrow.Author.Tests.{le-ltb}
+use Rattle.whole.specs.Given.{text}
+use Rattle.whole.specs.Step.{longest}
+use Rattle.whole.proofs.GivenLaws.{within-short}
 use Rattle.grammar.specs.Normal.{normalised}
 use Rattle.grammar.proofs.NormalLaws.{length-normalised-le}
-use Rattle.normalise.specs.Printed.{printedOf}
+use Rattle.format.specs.Normalise.{dueOf}
+use Rattle.frames.specs.Printing.{shownFor}
+use Rattle.frames.proofs.ProgramLaws.{Room}
 
-pub never-15 : (s : List ℕ) → length s ≤ 65536 → printedOf s 131072 ≡ normalised s
-never-15 s h = simp (le-ltb 65536 (length s) h, le-ltb 16777216 (length s) (omega arith), le-ltb 131072 (length (normalised s)) (omega (arith, length-normalised-le s)))
+due-text : (s : List ℕ) → length s ≤ 65536 → dueOf s ≡ text (normalised s)
+due-text s h = within-short longest s (text (normalised s)) (omega arith)
+
+-- n + n/6 + 1 bytes for the longest input are room for any normalised text: 15 is never printed
+pub normalised-room : (s : List ℕ) → length s ≤ 65536 → Room (65536 + 65536 / 6 + 1) (dueOf s)
+normalised-room s h t e = let n = due-text s h in let k : normalised s ≡ t = cc in omega (arith, length-normalised-le s, ap length k)
+
+pub never-15 : (s : List ℕ) → length s ≤ 65536 → shownFor s (dueOf s) ≡ normalised s
+never-15 s h = rw (within-short 65536 s (dueOf s) h, due-text s h)

@@ -1,6 +1,8 @@
-// The normaliser as a program: standard input to standard output. Its buffer holds two bytes for each byte that it reads, which is always enough (`never-15`).
+// The normaliser as a program: standard input to standard output.
 ghost use lib.ListN.{length};
 ghost use Rattle.text.specs.Wrote.{Put};
+ghost use Rattle.format.specs.Normalise.{dueOf};
+ghost use Rattle.frames.specs.Printing.{Shows};
 ghost use Rattle.normalise.specs.Printed.{printedOf};
 use element_frames::data::part;
 use elements::DataSpan;
@@ -9,22 +11,30 @@ use frames::printing::PROGRAM_MAX;
 use frames::printing::put_answer;
 use laddertick::Filled;
 use laddertick::normalise;
+use numbers::blank::first;
+
+// One byte more than an input may have, to tell one that is too long.
+const READ: usize = PROGRAM_MAX + 1;
+// The normalised text of n bytes has at most n + n/6 + 1, so 15 is never printed.
+const ROOM: usize = PROGRAM_MAX + PROGRAM_MAX / 6 + 1;
 
 fn main() {
-    let mut input = [0u8; 65537];
-    let mut out = [0u8; 131072];
+    let mut input = [0u8; READ];
+    let mut out = [0u8; ROOM];
     run(&mut input, &mut out);
 }
 
-fn run(input: &mut [u8; 65537], out: &mut [u8; 131072]) {
-    all(input, out);
+fn run(input: &mut [u8; READ], out: &mut [u8; ROOM]) {
+    let n = io::read_full(0, input);
+    let k = show(input, n, out);
+    io::write_all(1, part(out, DataSpan { start: 0, len: k }));
 }
 
-// One byte more than 65,536 is read, to tell an input that is too long.
-fn all(input: &mut [u8], out: &mut [u8]) {
-    let n = io::read_full(0, input);
-    let k = print_normalised(&input[..n], out);
-    io::write_all(1, part(out, DataSpan { start: 0, len: k }));
+// The bytes to print, from the start of out, where n bytes of standard input were read. Gives their number.
+fn show(input: &[u8; READ], n: usize, out: &mut [u8; ROOM]) -> usize
+    ensures { λ r. ⌜ Shows dueOf (now (input .entry)) n (now (out .exit)) r ⌝ }
+{
+    print_normalised(first(input, n), out)
 }
 
 // The normalised text of input, or the one frame ff of a refusal, from the start of out; nothing where out cannot hold the refusal. Gives its length.

@@ -3,5 +3,6 @@ pub mod StepLaws
 pub mod Whole
 pub mod TurnLaws
 pub mod TraceLaws
+pub mod EndLaws
 pub mod Again
 pub mod GivenLaws

@@ -1,7 +1,7 @@
--- `laddertick_c::steps::flat_step` meets its contract, case by case. Assumes nothing.
+-- `flat::steps::flat_step` meets its contract, case by case. Assumes nothing.
 use borrow.Author.Needs.{needs}
-use Rattle.laddertick_c.proofs.steps.flat_step.Statement.{statement}
-use Rattle.laddertick_c.proofs.steps.flat_step.Tie as tie
+use Rattle.flat.proofs.steps.flat_step.Statement.{statement}
+use Rattle.flat.proofs.steps.flat_step.Tie as tie
 
 enum-known-a : tie.Need-enum-known-a
 enum-known-a c = search needs

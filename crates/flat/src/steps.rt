@@ -1,11 +1,11 @@
-// Flat answers for those of the library.
+// Flat answers for those of the walk.
 ghost use mathlib.Core.Path.{_≡_};
 ghost use Rattle.walk.specs.Steps.{answerOf};
-ghost use Rattle.laddertick_c.specs.Steps.{flatOf};
-use flat::answer::Answer;
-use flat::answer::event;
-use flat::element::flat_element;
-use laddertick::Step;
+ghost use Rattle.flat.specs.Steps.{flatOf};
+use crate::answer::Answer;
+use crate::answer::event;
+use crate::element::flat_element;
+use walk::answer::Step;
 
 // A step's answer, with the state that it carries.
 pub fn flat_step(a: Step) -> Answer

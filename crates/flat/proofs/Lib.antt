@@ -1,0 +1,2 @@
+-- an answer and its frame
+pub mod FrameLaws

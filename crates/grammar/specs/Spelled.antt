@@ -1,0 +1,38 @@
+-- Which command a line spells, its blanks off, by its letters (01, "Grammar"). Nothing here speaks of how it is told: `commandOf` is proved to tell it.
+use mathlib.Core.List.{List, [], _∷_}
+use Prim.Native.Nat.{ℕ, _≤_}
+use Rattle.elements.specs.declared.LineColor.the-variants.{Black, White}
+use Rattle.spelling.specs.declared.command.Command.{Command}
+use Rattle.spelling.specs.declared.command.Command.the-variants.{Clear, Reference, Data, Line, Diagonal, Box, Print, Other}
+use Rattle.spelling.specs.declared.command.DataCommand.the-variants.{Text, Barcode, Barcode2d}
+use Rattle.grammar.specs.Ascii.{ascii, spelt}
+
+-- 0 to 9
+abbrev pub Digit : ℕ → Type 0
+Digit b = (48 ≤ b) × (b ≤ 57)
+
+abbrev pub Digits : List ℕ → Type 0
+Digits [] = Unit
+Digits (b ∷ s) = Digit b × Digits s
+
+-- the letters of each command; no line has those of two
+pub data Letters : Command → List ℕ → Type 0 where
+  -- "`N`; `R` and a digit"
+  is-n : Letters Clear (ascii "N")
+  is-r : {d : ℕ} {t : List ℕ} → Digit d → Letters Reference (spelt "R" (d ∷ t))
+  -- "`A`, `B`, `b`"
+  is-a : {t : List ℕ} → Letters (Data Text) (spelt "A" t)
+  is-b : {t : List ℕ} → Letters (Data Barcode) (spelt "B" t)
+  is-2d : {t : List ℕ} → Letters (Data Barcode2d) (spelt "b" t)
+  -- "`LO`, `LW` ..; `LS`, `X`"; "`LO` (black) and `LW` (white)"
+  is-lo : {t : List ℕ} → Letters (Line Black) (spelt "LO" t)
+  is-lw : {t : List ℕ} → Letters (Line White) (spelt "LW" t)
+  is-ls : {t : List ℕ} → Letters Diagonal (spelt "LS" t)
+  is-x : {t : List ℕ} → Letters Box (spelt "X" t)
+  -- "`P` or `P` with digits"
+  is-p : {t : List ℕ} → Digits t → Letters Print (spelt "P" t)
+
+-- "anything else, `LE` too, is passed over"
+pub data Spells : Command → List ℕ → Type 0 where
+  by-letters : {c : Command} {t : List ℕ} → Letters c t → Spells c t
+  else : {t : List ℕ} → ((c : Command) → Letters c t → ⊥) → Spells Other t

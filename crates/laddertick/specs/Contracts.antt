@@ -1,0 +1,57 @@
+-- What the contracts of `step`, `list` and `normalise` say, as types; and any functions that meet them, over which the claims are made. That the code meets them
+-- is `Proved`.
+use mathlib.Core.Path.{_≡_}
+use mathlib.Core.List.{List, _++_}
+use Prim.Native.Nat.{ℕ, _≤_, _<_}
+use lib.ListN.{length, drop}
+use Rattle.elements.specs.declared.filled.Filled.{Filled}
+use Rattle.elements.specs.declared.walk_state.WalkState.{WalkState}
+use Rattle.whole.specs.Given.{bytes, refused, Fills}
+use Rattle.whole.specs.Step.{step}
+use Rattle.grammar.specs.Epl.{epl}
+use Rattle.grammar.specs.Filled.{givenOf}
+use Rattle.walk.specs.declared.answer.Step.{Step}
+use Rattle.walk.specs.Steps.{stateOf, answerOf}
+use Rattle.frames.specs.Listing as listing
+use Rattle.format.specs.Normalise as normal
+
+-- `step` answers r to the input s and the state w
+abbrev pub Stepped : List ℕ → WalkState → Step → Type 0
+Stepped s w r = answerOf r ≡ step epl s (stateOf w)
+
+-- `list` answers r to the input s and the buffer l, which becomes n
+abbrev pub Listed : List ℕ → List ℕ → List ℕ → Filled → Type 0
+Listed s l n r = Fills n l (listing.dueOf s) (givenOf r)
+
+-- `normalise`, in the same way
+abbrev pub Normalised : List ℕ → List ℕ → List ℕ → Filled → Type 0
+Normalised s l n r = Fills n l (normal.dueOf s) (givenOf r)
+
+-- what a call that fills a lent buffer answers, and the buffer afterwards
+pub record Filling : Type 0 where
+  pub answer : Filled
+  pub buffer : List ℕ
+
+-- functions of the input and the state, or of the input and the buffer as it came, that meet these contracts
+pub record Library : Type 0 where
+  pub step : List ℕ → WalkState → Step
+  pub list : List ℕ → List ℕ → Filling
+  pub normalise : List ℕ → List ℕ → Filling
+  pub steps : (s : List ℕ) (w : WalkState) → Stepped s w (step s w)
+  pub lists : (s l : List ℕ) → Listed s l (list s l .buffer) (list s l .answer)
+  pub normalises : (s l : List ℕ) → Normalised s l (normalise s l .buffer) (normalise s l .answer)
+
+-- ---- what a call did, from its answer and its buffer alone
+
+-- "A refused call leaves each lent buffer byte for byte as it came": number and place, of a call that was lent l
+abbrev pub Denies : ℕ → ℕ → List ℕ → Filling → Type 0
+Denies n p l c = (givenOf (c .answer) ≡ refused n p) × (c .buffer ≡ l)
+
+-- the text t stands from the start of l on and its length is given, "Output bytes past the written length keep their values"
+abbrev pub Writes : List ℕ → List ℕ → Filling → Type 0
+Writes t l c = (givenOf (c .answer) ≡ bytes (length t)) × (c .buffer ≡ t ++ drop (length t) l)
+
+-- it is written "where the buffer has room, and 15 gives its length where not"
+pub record Gives (t l : List ℕ) (c : Filling) : Type 0 where
+  pub room : length t ≤ length l → Writes t l c
+  pub short : length l < length t → Denies 15 (length t) l c

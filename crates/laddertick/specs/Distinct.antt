@@ -1,0 +1,116 @@
+-- A file for each command and type, with all its fields set and distinct, and the lines that `list` writes for it, character by character (01, "Frames"), so that no
+-- two fields can change places in a reader, a frame and their definitions together; then files that pin what readers and grammar share: defaults, least values, fonts,
+-- flags, data, blanks, prints. `distinct` (proofs/Distinct.antt): every row holds.
+use mathlib.Core.Bool.{cond}
+use mathlib.Core.List.{List, [], _∷_, _++_}
+use Prim.Native.Char.{code}
+use Prim.Native.Nat.{ℕ}
+use Prim.Native.String.{String}
+use Prim.Native.String as string
+use lib.Dec.{eqb}
+use Rattle.grammar.specs.Ascii.{ascii, spelt}
+use Rattle.laddertick.specs.Table.{Case, lists}
+
+-- the characters of a text without its blanks, and then t
+abbrev packed : String → List ℕ → List ℕ
+packed string.[] t = t
+packed (string._∷_ c s) t = cond (eqb (code c) 32) (packed s t) (code c ∷ packed s t)
+
+-- a command at the reference 100,200 (hexadecimal 64, c8), and the frame of its element; blanks in a frame are for the eye
+abbrev alone : String → String → Case
+alone c f = lists (spelt "R100,200\n" (spelt c (ascii "\nP1\n"))) (spelt "0000000001\n" (packed f (ascii "\n")))
+
+-- a file, and all its frames
+abbrev several : String → String → Case
+several s f = lists (ascii s) (packed f [])
+
+abbrev pub table : List Case
+table =
+    -- "01 text: rotation flag (0 to 3), reverse flag, height and width f64, data": 144.0, 70.0
+    alone "A1,2,3,4,5,6,R,\"x\"" "01 00000065 000000ca 03 01 4062000000000000 4051800000000000 00000001 78"
+    -- "05 Code 128: rotation, narrow, height, line flag, mode flag (1 Ucc, 2 Automatic, 3 Ean), data"
+    ∷ alone "B1,2,3,0,4,9,5,B,\"x\"" "05 00000065 000000ca 03 00000004 00000005 01 01 00000001 78"
+    ∷ alone "B1,2,1,1,4,9,5,N,\"x\"" "05 00000065 000000ca 01 00000004 00000005 00 02 00000001 78"
+    ∷ alone "B1,2,2,1A,4,9,5,B,\"x\"" "05 00000065 000000ca 02 00000004 00000005 01 02 00000001 78"
+    ∷ alone "B1,2,2,1B,4,9,5,B,\"x\"" "05 00000065 000000ca 02 00000004 00000005 01 02 00000001 78"
+    ∷ alone "B1,2,2,1C,4,9,5,B,\"x\"" "05 00000065 000000ca 02 00000004 00000005 01 02 00000001 78"
+    ∷ alone "B1,2,3,1E,4,9,5,B,\"x\"" "05 00000065 000000ca 03 00000004 00000005 01 03 00000001 78"
+    -- "06 EAN-13, 07 EAN-8, 08 UPC-A, 10 UPC-E: rotation, narrow, height, line, data"
+    ∷ alone "B1,2,3,E30,4,9,5,B,\"x\"" "06 00000065 000000ca 03 00000004 00000005 01 00000001 78"
+    ∷ alone "B1,2,3,E80,4,9,5,B,\"x\"" "07 00000065 000000ca 03 00000004 00000005 01 00000001 78"
+    ∷ alone "B1,2,3,UA0,4,9,5,B,\"x\"" "08 00000065 000000ca 03 00000004 00000005 01 00000001 78"
+    ∷ alone "B1,2,3,UE0,4,9,5,B,\"x\"" "10 00000065 000000ca 03 00000004 00000005 01 00000001 78"
+    -- "09 2 of 5, 0a Code 39: rotation, narrow, height, line, check flag, ratio f64, data": 14 by 4 is 3.5
+    ∷ alone "B1,2,3,2,4,14,5,B,\"x\"" "09 00000065 000000ca 03 00000004 00000005 01 00 400c000000000000 00000001 78"
+    ∷ alone "B1,2,3,2C,4,14,5,N,\"x\"" "09 00000065 000000ca 03 00000004 00000005 00 01 400c000000000000 00000001 78"
+    ∷ alone "B1,2,3,2D,4,14,5,N,\"x\"" "09 00000065 000000ca 03 00000004 00000005 00 01 400c000000000000 00000001 78"
+    ∷ alone "B1,2,2,3,4,14,5,B,\"x\"" "0a 00000065 000000ca 02 00000004 00000005 01 00 400c000000000000 00000001 78"
+    ∷ alone "B1,2,2,3C,4,14,5,N,\"x\"" "0a 00000065 000000ca 02 00000004 00000005 00 01 400c000000000000 00000001 78"
+    -- "0b PDF417: rotation, row height, security, columns, rows, truncate flag, module width, data"
+    ∷ alone "b1,2,P,o3,y7,s4,l5,r6,t1,x8\"x\"" "0b 00000065 000000ca 03 00000007 00000004 00000005 00000006 01 00000008 00000001 78"
+    -- "0c Aztec: magnification, size, data; 0d Data Matrix: module, columns, rows, data"
+    ∷ alone "b1,2,A,d4,e5\"x\"" "0c 00000065 000000ca 00000004 00000005 00000001 78"
+    ∷ alone "b1,2,D,h4,c5,r6\"x\"" "0d 00000065 000000ca 00000004 00000005 00000006 00000001 78"
+    -- "0e QR: magnification, level letter (1 byte), data; 0f MaxiCode: mode, data"
+    ∷ alone "b1,2,Q,s4,eH\"x\"" "0e 00000065 000000ca 00000004 48 00000001 78"
+    ∷ alone "b1,2,M,m6\"x\"" "0f 00000065 000000ca 00000006 00000001 78"
+    -- "02 box: width, height, thickness, colour flag (0 black, 1 white); 03 diagonal: width, height, thickness, direction flag"
+    ∷ alone "LO1,2,9,4" "02 00000065 000000ca 00000009 00000004 00000004 00"
+    ∷ alone "LW1,2,9,4" "02 00000065 000000ca 00000009 00000004 00000004 01"
+    ∷ alone "X14,25,3,1,2" "02 00000065 000000ca 0000000d 00000017 00000003 00"
+    ∷ alone "LS1,2,3,14,25" "03 00000065 000000ca 0000000d 00000017 00000003 01"
+    ∷ alone "LS14,25,3,1,2" "03 00000065 000000ca 0000000d 00000017 00000003 01"
+    ∷ alone "LS14,2,3,1,25" "03 00000065 000000ca 0000000d 00000017 00000003 00"
+    -- "04 graphic: row bytes, total, data (the payload, not decoded)"
+    ∷ alone "GW1,2,3,4,abcdefghijkl" "04 00000065 000000ca 00000003 0000000c 0000000c 6162636465666768696a6b6c"
+    -- "fonts 1 to 5 are 8×12, 10×16, 12×20, 14×24, 32×48 (width × height); any other is 8×12": multipliers 4 and 3
+    ∷ alone "A0,0,0,1,4,3,N,\"x\"" "01 00000064 000000c8 00 00 4042000000000000 4040000000000000 00000001 78"
+    ∷ alone "A0,0,0,2,4,3,N,\"x\"" "01 00000064 000000c8 00 00 4048000000000000 4044000000000000 00000001 78"
+    ∷ alone "A0,0,0,3,4,3,N,\"x\"" "01 00000064 000000c8 00 00 404e000000000000 4048000000000000 00000001 78"
+    ∷ alone "A0,0,0,4,4,3,N,\"x\"" "01 00000064 000000c8 00 00 4052000000000000 404c000000000000 00000001 78"
+    ∷ alone "A0,0,0,5,4,3,N,\"x\"" "01 00000064 000000c8 00 00 4062000000000000 4060000000000000 00000001 78"
+    ∷ alone "A0,0,0,6,4,3,N,\"x\"" "01 00000064 000000c8 00 00 4042000000000000 4040000000000000 00000001 78"
+    ∷ alone "A0,0,0,0,4,3,N,\"x\"" "01 00000064 000000c8 00 00 4042000000000000 4040000000000000 00000001 78"
+    -- "width equals height if the multipliers are equal"
+    ∷ alone "A0,0,0,5,3,3,N,\"x\"" "01 00000064 000000c8 00 00 4062000000000000 4062000000000000 00000001 78"
+    -- "else its default: 0; 1 for font, multipliers, narrow bar, thickness, line width and height; 2 wide bar; 10 bar height"
+    ∷ alone "A,,,,,,N,\"x\"" "01 00000064 000000c8 00 00 4028000000000000 4028000000000000 00000001 78"
+    ∷ alone "B,,,3,,,,N,\"x\"" "0a 00000064 000000c8 00 00000001 0000000a 00 00 4000000000000000 00000001 78"
+    ∷ alone "LO,,," "02 00000064 000000c8 00000001 00000001 00000001 00"
+    ∷ alone "LS,,,," "03 00000064 000000c8 00000000 00000000 00000001 01"
+    ∷ alone "X,,,," "02 00000064 000000c8 00000000 00000000 00000001 00"
+    ∷ alone "b,,P\"x\"" "0b 00000064 000000c8 00 00000018 ffffffff 00000000 00000000 00 00000006 00000001 78"
+    ∷ alone "b,,A\"x\"" "0c 00000064 000000c8 00000003 00000000 00000001 78"
+    ∷ alone "b,,D\"x\"" "0d 00000064 000000c8 00000005 00000000 00000000 00000001 78"
+    ∷ alone "b,,Q\"x\"" "0e 00000064 000000c8 00000003 4d 00000001 78"
+    ∷ alone "b,,M\"x\"" "0f 00000064 000000c8 00000004 00000001 78"
+    -- "Least value 1 for multipliers, narrow bar, bar height, thickness, line width and height"
+    ∷ alone "A0,0,0,1,0,-1,N,\"x\"" "01 00000064 000000c8 00 00 4028000000000000 4028000000000000 00000001 78"
+    ∷ alone "B0,0,0,3,0,3,-9,N,\"x\"" "0a 00000064 000000c8 00 00000001 00000001 00 00 4008000000000000 00000001 78"
+    ∷ alone "LO0,0,0,-1" "02 00000064 000000c8 00000001 00000001 00000001 00"
+    ∷ alone "LO0,0,-1,7" "02 00000064 000000c8 00000001 00000007 00000001 00"
+    ∷ alone "LS0,0,-1,0,0" "03 00000064 000000c8 00000000 00000000 00000001 01"
+    ∷ alone "X0,0,0,0,0" "02 00000064 000000c8 00000000 00000000 00000001 00"
+    -- "Rotations 1, 2, 3 are quarter turns, others 0"
+    ∷ alone "A0,0,4,1,1,1,N,\"x\"" "01 00000064 000000c8 00 00 4028000000000000 4028000000000000 00000001 78"
+    ∷ alone "A0,0,-1,1,1,1,N,\"x\"" "01 00000064 000000c8 00 00 4028000000000000 4028000000000000 00000001 78"
+    -- "(flag 1 if exactly `R`, blanks off)", "(flag 1 if exactly `B`, blanks off)"
+    ∷ alone "A0,0,0,1,1,1, R ,\"x\"" "01 00000064 000000c8 00 01 4028000000000000 4028000000000000 00000001 78"
+    ∷ alone "A0,0,0,1,1,1,RR,\"x\"" "01 00000064 000000c8 00 00 4028000000000000 4028000000000000 00000001 78"
+    ∷ alone "B0,0,0,1,1,1,1, B ,\"x\"" "05 00000064 000000c8 00 00000001 00000001 01 02 00000001 78"
+    ∷ alone "B0,0,0,1,1,1,1,b,\"x\"" "05 00000064 000000c8 00 00000001 00000001 00 02 00000001 78"
+    -- "Data is decoded as `from_utf8_lossy` does": hexadecimal e9 alone, and c3 a9
+    ∷ alone "b0,0,M\"éÃ©\"" "0f 00000064 000000c8 00000004 00000005 efbfbdc3a9"
+    -- "data lies between the first and last quote"; "trailing commas dropped"
+    ∷ alone "A1,2,3,4,5,6,R,,,\"a\"b\"" "01 00000065 000000ca 03 01 4062000000000000 4051800000000000 00000003 612262"
+    -- "Fewer than two quotes, or no data: nothing is read"
+    ∷ several "A0,0,0,1,1,1,N,\"x\nb0,0,Q\"\"\nP1\n" ""
+    -- "what follows its leading ASCII blanks": 20, 09, 0c, 0d before `GW`, and 0b, after which it is passed over
+    ∷ several " \t\u{c}\rGW1,2,1,2,a\nP1\n" "0000000001\n04 00000001 00000002 00000001 00000002 00000002 610a\n"
+    ∷ several "\u{b}GW1,2,1,2,a\nP1\n" ""
+    -- "prints if something is pending, and the reference stays"; "nothing is then pending"
+    ∷ several "P1\nR1,2\nLO1,2,9,4\nP1\nP\nLO1,2,9,5\nP2\n" "0000000001\n02 00000002 00000004 00000009 00000004 00000004 00\n0000000001\n02 00000002 00000004 00000009 00000005 00000005 00\n"
+    -- "within signed 32 bits, else its default"; "Unicode blanks off", as c2 a0
+    ∷ several "LO2147483648,-2147483649,+9,Â\u{a0}4 \nP1\n" "0000000001\n02 00000000 00000000 00000009 00000004 00000004 00\n"
+    ∷ several "LO2147483647,-2147483648,12O,- 4\nP1\n" "0000000001\n02 7fffffff 80000000 00000001 00000001 00000001 00\n"
+    ∷ []

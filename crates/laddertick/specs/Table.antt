@@ -1,0 +1,66 @@
+-- Tables of computed cases: inputs, each with all that the steps answer from the fresh state on, up to and including the end or the refusal, or with its normalised
+-- text, or with the lines that `list` writes. `Holds`: every row does.
+use mathlib.Core.Path.{_≡_}
+use mathlib.Core.List.{List, [], _∷_}
+use Prim.Native.Nat.{ℕ, zero, suc}
+use Prim.Native.String.{String}
+use Rattle.elements.specs.declared.LabelElement.{LabelElement}
+use Rattle.elements.specs.declared.LabelPosition.{LabelPosition}
+use Rattle.elements.specs.Walk as walk
+use Rattle.whole.specs.Given.{text}
+use Rattle.whole.specs.Step.{State, Answer, element, cleared, printed, ended, refused, step}
+use Rattle.whole.specs.Trace.{left}
+use Rattle.grammar.specs.Ascii.{ascii}
+use Rattle.grammar.specs.Epl.{epl}
+use Rattle.grammar.specs.Normal.{normalised}
+use Rattle.walk.specs.Steps as steps
+use Rattle.frames.specs.Listing.{dueOf}
+
+abbrev pub EplState : Type 0
+EplState = State LabelPosition
+
+abbrev pub EplAnswer : Type 0
+EplAnswer = Answer LabelPosition LabelElement Unit
+
+abbrev pub fresh : EplState
+fresh = steps.stateOf walk.fresh
+
+-- an answer, and behind it those from the state that it returned; the end and a refusal are the last
+abbrev pub onward : (EplState → List EplAnswer) → EplAnswer → List EplAnswer
+onward go (element e st) = element e st ∷ go st
+onward go (cleared st) = cleared st ∷ go st
+onward go (printed n q st) = printed n q st ∷ go st
+onward go (ended st) = ended st ∷ []
+onward go (refused n p st) = refused n p st ∷ []
+
+-- what k steps answer at most, each given the state that the last one returned
+abbrev pub answersOf : ℕ → List ℕ → EplState → List EplAnswer
+answersOf zero s st = []
+answersOf (suc k) s st = onward (λ st′. answersOf k s st′) (step epl s st)
+
+-- all answers to an input: `left` falls at each step
+abbrev pub answers : List ℕ → List EplAnswer
+answers s = answersOf (suc (left s fresh)) s fresh
+
+-- an input with all that is answered to it, with its normalised text, or with its listing
+pub data Case : Type 0 where
+  says : List ℕ → List EplAnswer → Case
+  becomes : List ℕ → List ℕ → Case
+  lists : List ℕ → List ℕ → Case
+
+-- every row of a table holds
+abbrev pub Holds : List Case → Type 0
+Holds [] = Unit
+Holds (says s xs ∷ cs) = (answers s ≡ xs) × Holds cs
+Holds (becomes s t ∷ cs) = (normalised s ≡ t) × Holds cs
+Holds (lists s t ∷ cs) = (dueOf s ≡ text t) × Holds cs
+
+-- How the rows are written, in characters:
+abbrev pub case : String → List EplAnswer → Case
+case s said = says (ascii s) said
+
+abbrev pub normal : String → String → Case
+normal s t = becomes (ascii s) (ascii t)
+
+abbrev pub listing : String → String → Case
+listing s t = lists (ascii s) (ascii t)

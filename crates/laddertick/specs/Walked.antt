@@ -1,0 +1,43 @@
+-- The walk of a string by a function that answers as `step` does, and the labels answered (01, "For demand 3").
+use mathlib.Core.Path.{_≡_}
+use mathlib.Core.List.{List, [], _∷_, _++_}
+use mathlib.Core.Logic.{_⊎_}
+use Prim.Native.Nat.{ℕ, _<_}
+use lib.ListN.{length}
+use Rattle.elements.specs.declared.walk_state.WalkState.{WalkState}
+use Rattle.elements.specs.Refusals.{numberOf}
+use Rattle.element_frames.specs.Frame.{frameOf}
+use Rattle.whole.specs.Reach.{Final, accepted, refusal}
+use Rattle.walk.specs.declared.answer.Step.{Step}
+use Rattle.walk.specs.declared.answer.Step.the-variants.{Element, Clear, Print, End, Refused}
+use Rattle.frames.specs.Listing.{FramedLabel}
+
+-- after an answer the walk goes on from the state that it returned, or is over
+pub data Next : Type 0 where
+  on-from : WalkState → Next
+  over : Final → Next
+
+abbrev pub next : Step → Next
+next (Element e w) = on-from w
+next (Clear w) = on-from w
+next (Print p w) = on-from w
+next (End w) = over accepted
+next (Refused k p w) = over (refusal (numberOf k) p)
+
+-- from a state, these answers and then this end, each step given the state that the last one returned
+pub data Walked (f : WalkState → Step) : WalkState → List Step → Final → Type 0 where
+  stop : {w : WalkState} {z : Final} → next (f w) ≡ over z → Walked f w [] z
+  go-on : {w w′ : WalkState} {xs : List Step} {z : Final} → next (f w) ≡ on-from w′ → Walked f w′ xs z → Walked f w (f w ∷ xs) z
+
+-- "walk state with its place past the end, or its pending count above its place"
+abbrev pub Outside : List ℕ → WalkState → Type 0
+Outside s w = (length s < w .place) ⊎ (w .place < w .pending)
+
+-- "Labels answered: at each print, what it carries and the elements since the start or the last clear or print", the elements by their frames
+abbrev pub answered : List ℕ → List (List ℕ) → List Step → List FramedLabel
+answered s p [] = []
+answered s p (Element e w ∷ xs) = answered s (p ++ (frameOf s e ∷ [])) xs
+answered s p (Clear w ∷ xs) = answered s [] xs
+answered s p (Print q w ∷ xs) = record { count = q .count; says = tt; frames = p } ∷ answered s [] xs
+answered s p (End w ∷ xs) = answered s p xs
+answered s p (Refused k n w ∷ xs) = answered s p xs

@@ -1,0 +1,61 @@
+-- The code of the static library's functions, and the contracts that it is proved to meet, as `Proved` of the crate `laddertick` has them for the plain ones: `owes`
+-- says what an `ensures` says. a are the arguments, r the result, z the arguments at exit. Assumes nothing.
+use mathlib.Core.Path.{_≡_}
+use Rattle.elements.specs.Walk.{fresh}
+use Rattle.decoding.specs.Decoding as decoding
+use Rattle.decoding.specs.Written.{givenFlat}
+use Rattle.whole.specs.Given.{Fills}
+use Rattle.whole.specs.Step as theory
+use Rattle.grammar.specs.Epl.{epl}
+use Rattle.walk.specs.Steps.{stateOf}
+use Rattle.flat.specs.Steps.{flatOf}
+use Rattle.frames.specs.Listing as listing
+use Rattle.format.specs.Normalise as normal
+use Rattle.laddertick.specs.Proved.{Owes}
+use Rattle.laddertick_c.proofs.laddertick_start.Statement as start
+use Rattle.laddertick_c.proofs.laddertick_start.Kinds as start-kinds
+use Rattle.laddertick_c.proofs.laddertick_start.Reads as start-reads
+use Rattle.laddertick_c.proofs.laddertick_start.Met as start-met
+use Rattle.laddertick_c.proofs.laddertick_step.Statement as step
+use Rattle.laddertick_c.proofs.laddertick_step.Kinds as step-kinds
+use Rattle.laddertick_c.proofs.laddertick_step.Reads as step-reads
+use Rattle.laddertick_c.proofs.laddertick_step.Met as step-met
+use Rattle.laddertick_c.proofs.laddertick_data.Statement as decode
+use Rattle.laddertick_c.proofs.laddertick_data.Kinds as decode-kinds
+use Rattle.laddertick_c.proofs.laddertick_data.Reads as decode-reads
+use Rattle.laddertick_c.proofs.laddertick_data.Met as decode-met
+use Rattle.laddertick_c.proofs.laddertick_list.Statement as list
+use Rattle.laddertick_c.proofs.laddertick_list.Kinds as list-kinds
+use Rattle.laddertick_c.proofs.laddertick_list.Reads as list-reads
+use Rattle.laddertick_c.proofs.laddertick_list.Met as list-met
+use Rattle.laddertick_c.proofs.laddertick_normalise.Statement as normalise
+use Rattle.laddertick_c.proofs.laddertick_normalise.Kinds as normalise-kinds
+use Rattle.laddertick_c.proofs.laddertick_normalise.Reads as normalise-reads
+use Rattle.laddertick_c.proofs.laddertick_normalise.Met as normalise-met
+
+pub record Proved : Type 2 where
+  pub start : {M : Type 1} → start.statement M
+  pub step : {M : Type 1} → step.statement M
+  pub decode : {M : Type 1} → decode.statement M
+  pub list : {M : Type 1} → list.statement M
+  pub normalise : {M : Type 1} → normalise.statement M
+  pub start-owes : Owes 0 start-kinds.ps start-kinds.r start-reads.Post (λ κs a r z. r ≡ fresh)
+  pub step-owes : Owes 1 step-kinds.ps step-kinds.r step-reads.Post (λ κs a r z. r ≡ flatOf (theory.step epl (a .0 .now) (stateOf (a .1 .0))))
+  pub decode-owes : Owes 2 decode-kinds.ps decode-kinds.r decode-reads.Post
+      (λ κs a r z. Fills (z .1 .1 .1 .0 .now) (a .1 .1 .1 .0 .now) (decoding.dueOf (a .0 .now) (record { start = a .1 .0; len = a .1 .1 .0 })) (givenFlat r))
+  pub list-owes : Owes 2 list-kinds.ps list-kinds.r list-reads.Post (λ κs a r z. Fills (z .1 .0 .now) (a .1 .0 .now) (listing.dueOf (a .0 .now)) (givenFlat r))
+  pub normalise-owes : Owes 2 normalise-kinds.ps normalise-kinds.r normalise-reads.Post (λ κs a r z. Fills (z .1 .0 .now) (a .1 .0 .now) (normal.dueOf (a .0 .now)) (givenFlat r))
+
+pub proved : Proved
+proved = record {
+  start = start-met.met;
+  step = step-met.met;
+  decode = decode-met.met;
+  list = list-met.met;
+  normalise = normalise-met.met;
+  start-owes = λ κs a r z p. p;
+  step-owes = λ κs a r z p. p;
+  decode-owes = λ κs a r z p. p;
+  list-owes = λ κs a r z p. p;
+  normalise-owes = λ κs a r z p. p;
+}

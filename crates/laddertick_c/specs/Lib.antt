@@ -1,2 +1,0 @@
--- 01, "Forms that change": states and answers of steps, flat
-pub mod Steps

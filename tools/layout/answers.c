@@ -1,0 +1,166 @@
+/*
+ * One step over each kind of answer, with values that are all different, and every field of the answer by its name: a number that came back in another's
+ * place would be seen. The values are 01's for the line (docs/FRAMES.md); a field that is not named here must be 0. Then the calls that write, and what a
+ * host may lend at its barest.
+ */
+#include <stdio.h>
+#include <string.h>
+
+#include "laddertick.h"
+#include "layout.h" /* made by tools/layout/run: the assertions on the structs, and their fields' names */
+
+/* Two elements are pending at place 29, reference 100,200. */
+#define BEFORE "R100,200\nLO1,1,1,1\nLO1,1,1,1\n"
+static const laddertick_walk THERE = {100, 200, 2, 29};
+/* The walk after an element that ends n bytes further on. */
+#define NEXT(n) {100, 200, 3, 29 + (n)}
+
+typedef struct one {
+    const char *line;
+    laddertick_answer answer;
+} one;
+
+static const one CASES[] = {
+    {"A1,2,3,4,5,6,R,\"seven77\"\n",
+     {.kind = 1, .rotation = 3, .reverse = 1, .x = 101, .y = 202, .text_height = 144, .text_width = 70, .data_start = 29 + 16, .data_len = 7, .next = NEXT(25)}},
+    {"LW1,2,4,3\n", {.kind = 2, .colour = 1, .x = 101, .y = 202, .width = 4, .height = 3, .thickness = 3, .next = NEXT(10)}},
+    {"X1,2,7,31,42\n", {.kind = 2, .x = 101, .y = 202, .width = 30, .height = 40, .thickness = 7, .next = NEXT(13)}},
+    {"LS1,2,7,31,42\n", {.kind = 3, .direction = 1, .x = 101, .y = 202, .width = 30, .height = 40, .thickness = 7, .next = NEXT(14)}},
+    {"GW5,6,3,2,abcdef\n", {.kind = 4, .x = 105, .y = 206, .row_bytes = 3, .data_start = 29 + 10, .data_len = 6, .next = NEXT(16)}},
+    {"B1,2,2,1E,4,5,6,B,\"hello\"\n",
+     {.kind = 5, .rotation = 2, .line = 1, .x = 101, .y = 202, .width = 4, .height = 6, .mode = 3, .data_start = 29 + 19, .data_len = 5, .next = NEXT(26)}},
+    {"B1,2,3,E30,4,5,6,B,\"hello\"\n",
+     {.kind = 6, .rotation = 3, .line = 1, .x = 101, .y = 202, .width = 4, .height = 6, .data_start = 29 + 20, .data_len = 5, .next = NEXT(27)}},
+    {"B1,2,3,E80,4,5,6,B,\"hello\"\n",
+     {.kind = 7, .rotation = 3, .line = 1, .x = 101, .y = 202, .width = 4, .height = 6, .data_start = 29 + 20, .data_len = 5, .next = NEXT(27)}},
+    {"B1,2,3,UA0,4,5,6,B,\"hello\"\n",
+     {.kind = 8, .rotation = 3, .line = 1, .x = 101, .y = 202, .width = 4, .height = 6, .data_start = 29 + 20, .data_len = 5, .next = NEXT(27)}},
+    {"B1,2,3,2C,4,10,6,N,\"hello\"\n",
+     {.kind = 9, .rotation = 3, .check = 1, .x = 101, .y = 202, .width = 4, .height = 6, .ratio = 2.5, .data_start = 29 + 20, .data_len = 5, .next = NEXT(27)}},
+    {"B1,2,3,3,4,14,6,B,\"hello\"\n",
+     {.kind = 10, .rotation = 3, .line = 1, .x = 101, .y = 202, .width = 4, .height = 6, .ratio = 3.5, .data_start = 29 + 19, .data_len = 5, .next = NEXT(26)}},
+    {"b1,2,P,o3,y17,s4,l5,r6,t1,x8\"seven77\"\n",
+     {.kind = 11, .rotation = 3, .truncate = 1, .x = 101, .y = 202, .width = 8, .height = 17, .security = 4, .columns = 5, .rows = 6, .data_start = 29 + 29, .data_len = 7, .next = NEXT(38)}},
+    {"b1,2,A,d44,e99\"hello\"\n", {.kind = 12, .x = 101, .y = 202, .magnification = 44, .size = 99, .data_start = 29 + 15, .data_len = 5, .next = NEXT(22)}},
+    {"b1,2,D,c4,r7,h6\"hello\"\n",
+     {.kind = 13, .x = 101, .y = 202, .height = 6, .columns = 4, .rows = 7, .data_start = 29 + 16, .data_len = 5, .next = NEXT(23)}},
+    {"b1,2,Q,s44,eH\"hello\"\n", {.kind = 14, .level = 'H', .x = 101, .y = 202, .magnification = 44, .data_start = 29 + 14, .data_len = 5, .next = NEXT(21)}},
+    {"b1,2,M,m3\"hello\"\n", {.kind = 15, .x = 101, .y = 202, .mode = 3, .data_start = 29 + 10, .data_len = 5, .next = NEXT(17)}},
+    {"B1,2,3,UE0,4,5,6,B,\"hello\"\n",
+     {.kind = 16, .rotation = 3, .line = 1, .x = 101, .y = 202, .width = 4, .height = 6, .data_start = 29 + 20, .data_len = 5, .next = NEXT(27)}},
+    {"P5\n", {.kind = 0, .count = 2, .next = {100, 200, 0, 32}}},
+    {"", {.kind = 0, .count = 2, .next = {100, 200, 0, 29}}},
+    {"N\n", {.kind = 17, .next = {0, 0, 0, 31}}},
+    {"B1,2,3,1D,4,5,6,B,\"hello\"\n", {.kind = 255, .number = 7, .place = 29, .next = {100, 200, 2, 29}}},
+};
+
+static int wrong;
+static size_t looked_at;
+
+/* A number of the answer and the one that is due. */
+static void number(const char *what, const char *field, double got, double due)
+{
+    if (got != due) {
+        printf("layout: %.*s: %s is %.17g and not %.17g\n", (int)strcspn(what, "\n"), what, field, got, due);
+        wrong = 1;
+    }
+}
+
+static void answer(const char *what, laddertick_answer got, laddertick_answer due)
+{
+#define F(field) number(what, #field, (double)got.field, (double)due.field);
+    FIELDS_laddertick_answer(F)
+#undef F
+    looked_at++;
+}
+
+static void walk(const char *what, laddertick_walk got, laddertick_walk due)
+{
+#define F(field) number(what, #field, (double)got.field, (double)due.field);
+    FIELDS_laddertick_walk(F)
+#undef F
+}
+
+static void written(const char *what, laddertick_written got, laddertick_written due)
+{
+#define F(field) number(what, #field, (double)got.field, (double)due.field);
+    FIELDS_laddertick_written(F)
+#undef F
+}
+
+static void bytes(const char *what, const void *got, const void *due, size_t n)
+{
+    if (memcmp(got, due, n) != 0) {
+        printf("layout: %s: other bytes are written\n", what);
+        wrong = 1;
+    }
+}
+
+static const uint8_t *input;
+static size_t input_len;
+
+static void steps(void)
+{
+    for (size_t i = 0; i < sizeof CASES / sizeof CASES[0]; i++) {
+        char text[128];
+        input_len = (size_t)snprintf(text, sizeof text, BEFORE "%s", CASES[i].line);
+        input = (const uint8_t *)text;
+        answer(CASES[i].line, laddertick_step(input, input_len, THERE), CASES[i].answer);
+    }
+    /* from the start over R, and at the end */
+    input = (const uint8_t *)BEFORE;
+    input_len = strlen(BEFORE);
+    walk("the start", laddertick_start(), (laddertick_walk){0, 0, 0, 0});
+    answer("the first step", laddertick_step(input, input_len, laddertick_start()),
+           (laddertick_answer){.kind = 2, .x = 101, .y = 201, .width = 1, .height = 1, .thickness = 1, .next = {100, 200, 1, 19}});
+    answer("the end", laddertick_step(input, input_len, (laddertick_walk){3, 4, 0, 29}), (laddertick_answer){.kind = 18, .next = {3, 4, 0, 29}});
+    answer("a state outside", laddertick_step(input, input_len, (laddertick_walk){3, 4, 5, 30}),
+           (laddertick_answer){.kind = 255, .number = 16, .place = 30, .next = {3, 4, 5, 30}});
+}
+
+static void writes(void)
+{
+    static const char LISTING[] = "0000000001\n020000000f0000001a0000001e000000040000000400\n";
+    uint8_t out[64];
+    input = (const uint8_t *)"R10,20\nLO5,6,30,4\nP1\n";
+    input_len = 21;
+    written("list into 55 bytes", laddertick_list(input, input_len, out, 55), (laddertick_written){15, 56});
+    written("list into 56 bytes", laddertick_list(input, input_len, out, 56), (laddertick_written){0, 56});
+    bytes("list", out, LISTING, 56);
+    input = (const uint8_t *)" N \r\nab\377def";
+    input_len = 11;
+    written("normalise into 8 bytes", laddertick_normalise(input, input_len, out, 8), (laddertick_written){15, 9});
+    written("normalise into 9 bytes", laddertick_normalise(input, input_len, out, 9), (laddertick_written){0, 9});
+    bytes("normalise", out, "N\nab\377def\n", 9);
+    written("data into 5 bytes", laddertick_data(input, input_len, 6, 4, out, 5), (laddertick_written){15, 6});
+    written("data into 6 bytes", laddertick_data(input, input_len, 6, 4, out, 6), (laddertick_written){0, 6});
+    bytes("data", out, "b\357\277\275de", 6);
+}
+
+/* NULL of length 0, for an input and for a buffer: an empty file, and no room. */
+static void null(void)
+{
+    uint8_t out[1];
+    answer("NULL", laddertick_step(NULL, 0, laddertick_start()), (laddertick_answer){.kind = 18});
+    answer("NULL, pending", laddertick_step(NULL, 0, (laddertick_walk){3, 4, 5, 6}), (laddertick_answer){.kind = 255, .number = 16, .place = 6, .next = {3, 4, 5, 6}});
+    for (int k = 0; k < 2; k++) {
+        uint8_t *to = k == 0 ? NULL : out;
+        written("list NULL", laddertick_list(NULL, 0, to, (size_t)k), (laddertick_written){0, 0});
+        written("normalise NULL", laddertick_normalise(NULL, 0, to, (size_t)k), (laddertick_written){0, 0});
+        written("data of NULL", laddertick_data(NULL, 0, 7, 8, to, (size_t)k), (laddertick_written){0, 0});
+    }
+    input = (const uint8_t *)"LO5,6,30,4";
+    written("list into NULL", laddertick_list(input, 10, NULL, 0), (laddertick_written){15, 56});
+    written("normalise into NULL", laddertick_normalise(input, 10, NULL, 0), (laddertick_written){15, 11});
+    written("data into NULL", laddertick_data(input, 10, 3, 4, NULL, 0), (laddertick_written){15, 4});
+    written("a refusal into NULL", laddertick_list((const uint8_t *)"X1", 2, NULL, 0), (laddertick_written){6, 0});
+}
+
+int main(void)
+{
+    steps();
+    writes();
+    null();
+    printf("layout: %zu answers of a step, every field of each: %s\n", looked_at, wrong ? "some are wrong" : "all as 01 says");
+    return wrong;
+}

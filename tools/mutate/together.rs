@@ -1,0 +1,172 @@
+//! Edits of definitions together with code. Each file of tools/mutate/together makes a wrong reader whose code still meets its definition: both are
+//! edited alike, and proofs where they follow the code. The edited crates and then all that depend on them are checked, lowest first, up to the
+//! static library. What refuses the edit should be a law in the paper's words or a computed case; the table says what did.
+
+use crate::check::{Verdict, WorkingCopy};
+use crate::report::{self, Report};
+use crate::source;
+use std::collections::BTreeMap;
+use std::fs;
+use std::path::Path;
+use std::sync::atomic::{AtomicUsize, Ordering::Relaxed};
+use std::sync::Mutex;
+use std::time::Instant;
+
+/// The last crate that is checked: the programs after it promise nothing of their own.
+const LAST: &str = "laddertick_c";
+
+/// An edit as its file has it.
+pub struct Together {
+    name: String,
+    /// The sentence that it breaks.
+    breaks: String,
+    changes: Vec<Change>,
+}
+
+/// One text for another in a file, whose path is from the repository's root on.
+struct Change {
+    file: String,
+    old: String,
+    new: String,
+}
+
+/// What became of an edit, by its number, and what refused it.
+struct Outcome {
+    edit: usize,
+    verdict: Verdict,
+    refused_by: String,
+}
+
+/// The named edits, or all, in the order of their names; or their faults, such as a text that is not in its file.
+pub fn read(root: &Path, names: &[String]) -> Result<Vec<Together>, String> {
+    let folder = root.join("tools/mutate/together");
+    let files = fs::read_dir(&folder).expect("tools/mutate/together").flatten().map(|entry| entry.file_name().into_string().unwrap_or_default());
+    let mut all: Vec<String> = files.filter_map(|file| Some(file.strip_suffix(".edit")?.to_string())).collect();
+    all.sort();
+    let mut faults: Vec<String> = names.iter().filter(|name| !all.contains(name)).map(|name| format!("no edit has the name {name}")).collect();
+    all.retain(|name| names.is_empty() || names.contains(name));
+    let edits: Vec<Together> = all.iter().map(|name| parse(name, &fs::read_to_string(folder.join(format!("{name}.edit"))).expect("an edit"))).collect();
+    faults.extend(edits.iter().filter_map(|edit| Some(format!("{}: {}", edit.name, edit.made(root).err()?))));
+    if faults.is_empty() {
+        Ok(edits)
+    } else {
+        Err(faults.join("\n"))
+    }
+}
+
+/// As a must-fail edit. Several `old:` in a row are one text of several lines, and so are several `new:`.
+fn parse(name: &str, text: &str) -> Together {
+    let mut edit = Together { name: name.into(), breaks: String::new(), changes: vec![] };
+    let (mut file, mut last) = ("", "");
+    for line in text.lines() {
+        let (word, rest) = line.split_once(' ').unwrap_or((line, ""));
+        match (word, edit.changes.last_mut()) {
+            ("#", _) if edit.breaks.is_empty() => edit.breaks = rest.into(),
+            ("file:", _) => file = rest,
+            ("old:", Some(change)) if last == word => change.old += &format!("\n{rest}"),
+            ("old:", _) => edit.changes.push(Change { file: file.into(), old: rest.into(), new: String::new() }),
+            ("new:", Some(change)) if last == word => change.new += &format!("\n{rest}"),
+            ("new:", Some(change)) => change.new = rest.into(),
+            _ => {}
+        }
+        last = word;
+    }
+    edit
+}
+
+impl Together {
+    /// The files with their new texts, or what is wrong.
+    fn made(&self, root: &Path) -> Result<BTreeMap<&str, String>, String> {
+        let mut texts: BTreeMap<&str, String> = BTreeMap::new();
+        for Change { file, old, new } in &self.changes {
+            let text = match texts.get(file.as_str()) {
+                Some(text) => text.clone(),
+                None => fs::read_to_string(root.join(file)).map_err(|_| format!("there is no file {file}"))?,
+            };
+            if text.matches(old.as_str()).count() != 1 {
+                return Err(format!("{file} does not have this text once:\n{old}"));
+            }
+            texts.insert(file, text.replacen(old.as_str(), new, 1));
+        }
+        (!texts.is_empty()).then_some(texts).ok_or("it changes nothing".into())
+    }
+
+    /// The crates whose files are edited and those that depend on them, in the order of crates.txt.
+    fn crates(&self, root: &Path) -> Vec<String> {
+        let mut touched: Vec<String> = vec![];
+        for (name, needs) in source::listed_dependencies(root) {
+            let edited = self.changes.iter().any(|change| change.file.starts_with(&format!("crates/{name}/")));
+            let is_last = name == LAST;
+            if edited || needs.iter().any(|need| touched.contains(need)) {
+                touched.push(name);
+            }
+            if is_last {
+                break;
+            }
+        }
+        touched
+    }
+}
+
+/// Tries edits, some at a time, each in a fresh copy of a proved one: the table, and whether all were refused.
+pub fn run(proved: &Path, folder: &Path, edits: &[Together], seconds: &BTreeMap<String, u64>, jobs: usize) -> (String, bool) {
+    let report = Report::open(folder.into(), false);
+    let next = AtomicUsize::new(0);
+    let outcomes = Mutex::new(vec![]);
+    let work = |job: usize| loop {
+        let number = next.fetch_add(1, Relaxed);
+        let Some(edit) = edits.get(number) else { break };
+        let start = Instant::now();
+        let copy = WorkingCopy::make(proved, &folder.join(job.to_string()));
+        let (verdict, said) = attempt(proved, &copy, edit, seconds);
+        let refused_by = refused_by(&said);
+        report.add(&format!("{}: {refused_by}", edit.name), verdict, start.elapsed().as_secs(), &said);
+        eprintln!("{}: {} {refused_by}", report::word(verdict), edit.name);
+        outcomes.lock().unwrap().push(Outcome { edit: number, verdict, refused_by });
+    };
+    std::thread::scope(|scope| (0..jobs).for_each(|job| drop(scope.spawn(move || work(job)))));
+    let mut outcomes = outcomes.into_inner().unwrap();
+    outcomes.sort_by_key(|outcome| outcome.edit);
+    (table(edits, &outcomes), outcomes.iter().all(|outcome| outcome.verdict == Verdict::Refused))
+}
+
+/// Checks crate after crate until one is not proved: the verdict on that one, and what `rt` said of it.
+fn attempt(proved: &Path, copy: &WorkingCopy, edit: &Together, seconds: &BTreeMap<String, u64>) -> (Verdict, String) {
+    for (file, text) in edit.made(proved).expect("an edit that fits") {
+        copy.write(file, &text);
+    }
+    for name in edit.crates(proved) {
+        let (verdict, said) = copy.verdict_as_it_stands(&name, 300 + 10 * seconds[&name]);
+        if verdict != Verdict::Survived {
+            return (verdict, said);
+        }
+    }
+    (Verdict::Survived, String::new())
+}
+
+/// The first error's file and line, its words, and the names that the errors of that file stand in: a lemma that fails takes those that rest on it along.
+fn refused_by<'a>(said: &'a str) -> String {
+    let error = |line: &'a str| -> Option<(&str, &str)> {
+        let (place, words) = line.split_once("/crates/")?.1.split_once(": error: ")?;
+        Some((place.rsplit_once(':')?.0, words))
+    };
+    let errors: Vec<(&str, &str)> = said.lines().filter_map(error).collect();
+    let Some((place, first)) = errors.first() else { return String::new() };
+    let file = |place: &'a str| place.split(':').next();
+    let mut names: Vec<&str> = vec![];
+    for (_, words) in errors.iter().filter(|(other, _)| file(other) == file(place)) {
+        names.extend(words.split('`').nth(1).filter(|name| words.starts_with('`') && !names.contains(name)));
+    }
+    format!("{place} ({}): {first}", names.join(", "))
+}
+
+fn table(edits: &[Together], outcomes: &[Outcome]) -> String {
+    let row = |outcome: &Outcome| {
+        let Together { name, breaks, changes } = &edits[outcome.edit];
+        let mut files: Vec<&str> = changes.iter().map(|change| change.file.trim_start_matches("crates/")).collect();
+        files.dedup();
+        format!("{name}: {breaks}\n    {}\n    {}: {}\n", files.join(", "), report::word(outcome.verdict), outcome.refused_by)
+    };
+    let refused = outcomes.iter().filter(|outcome| outcome.verdict == Verdict::Refused).count();
+    outcomes.iter().map(row).chain([format!("{refused} of {} refused\n", outcomes.len())]).collect()
+}
