@@ -9,7 +9,7 @@ fn main() {
     let folder = env::var("LADDERTICK_LIB").map_or_else(|_| here.join("../../target/staticlib"), PathBuf::from);
     let library = folder.join("libladdertick_c.a");
     if !library.exists() {
-        eprintln!("no {}: make it by `rt staticlib laddertick_c`, or set LADDERTICK_LIB to its folder", library.display());
+        eprintln!("no {}: make it by ./laddertick build, or set LADDERTICK_LIB to its folder", library.display());
         process::exit(1);
     }
     println!("cargo:rerun-if-changed={}", library.display());
