@@ -27,16 +27,15 @@ int main(int argc, char **argv)
     uint8_t *out = room(argv[2], need);
     if (need != 0)
         w = of(input.at, input.len, out, need);
-    if (w.number != 0) {
-        if (of == laddertick_list)
-            printf("ff%02x%08zx\n", w.number, w.place);
-        flush();
-        refuse(argv[2], input, w.number, w.place);
-    }
-    if (fwrite(out, 1, w.place, stdout) != w.place)
-        give_up("standard output", strerror(errno));
-    flush();
+    if (w.number == 0)
+        fwrite(out, 1, w.place, stdout);
+    else if (of == laddertick_list)
+        printf("ff%02x%08zx\n", w.number, w.place);
+    /* What goes to standard output is out before the words of a refusal. */
+    int status = flushed(0);
+    if (w.number != 0 && status == 0)
+        status = refuse(argv[2], input, w.number, w.place);
     free(out);
     free(input.at);
-    return 0;
+    return status;
 }

@@ -85,23 +85,22 @@ static void explain_label(const char *name, bytes input, laddertick_walk walk, s
     }
 }
 
-/* Walks to the end; where `out` is set it explains each label when its print is reached. Gives how many labels there are. */
-static size_t walk_file(const char *name, bytes input, int out)
+/* Walks to the end or to a refusal, and gives that last answer; where `out` is set it explains each label when its print is reached. Counts the labels. */
+static laddertick_answer walk_file(const char *name, bytes input, int out, size_t *labels)
 {
     laddertick_walk walk = laddertick_start(), first = walk;
-    size_t labels = 0;
+    *labels = 0;
     for (;;) {
         laddertick_answer a = laddertick_step(input.at, input.len, walk);
         walk = a.next;
         switch (a.kind) {
         case LADDERTICK_REFUSED:
-            refuse(name, input, a.number, a.place);
         case LADDERTICK_END:
-            return labels;
+            return a;
         case LADDERTICK_PRINT:
-            labels++;
+            ++*labels;
             if (out)
-                explain_label(name, input, first, labels, a.count);
+                explain_label(name, input, first, *labels, a.count);
             first = walk;
             break;
         case LADDERTICK_CLEAR:
@@ -118,11 +117,16 @@ int main(int argc, char **argv)
         return 2;
     }
     bytes input = read_file(argv[1]);
-    if (walk_file(argv[1], input, 0) == 0)
+    size_t labels;
+    laddertick_answer last = walk_file(argv[1], input, 0, &labels);
+    int status = 0;
+    if (last.kind == LADDERTICK_REFUSED)
+        status = refuse(argv[1], input, last.number, last.place);
+    else if (labels == 0)
         puts("no labels");
     else
-        walk_file(argv[1], input, 1);
-    flush();
+        walk_file(argv[1], input, 1, &labels);
+    status = flushed(status);
     free(input.at);
-    return 0;
+    return status;
 }

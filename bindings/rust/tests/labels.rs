@@ -91,12 +91,27 @@ fn refusals_say_number_place_and_meaning() {
     assert_eq!(refused(b"GW0,0,1,1,"), (12, 0));
     assert_eq!(refused(b"X2147483647,0,1,-1,0"), (13, 0));
     let words = labels(b"LO1\n").next().unwrap().unwrap_err().to_string();
-    assert_eq!(words, "refused (4) at byte 0: a line (LO, LW) has fewer than 4 fields");
+    assert_eq!(words, "refused (4): a line (LO, LW) needs 4 fields: x, y, width, height, at offset 0 (from 0)");
+    assert_eq!(Refused { number: 14, place: 0 }.to_string(), "refused (14): more than 16,777,216 bytes");
     // What was printed before the refused line, then the refusal, then nothing.
     let mut walk = labels(b"LO1,1,1,1\nP\nLO2,2,2,2\nX\nP\n");
     assert_eq!(walk.next().unwrap().unwrap().elements.len(), 1);
     assert_eq!(walk.next().unwrap().unwrap_err(), Refused { number: 6, place: 22 });
     assert!(walk.next().is_none());
+}
+
+/// The words are those that the C examples print; examples/c/test holds them against the same file.
+#[test]
+fn words_of_c() {
+    let printed = include_str!("../../../samples/expected/refusals.err");
+    let meanings: Vec<&str> = (1..=16).map(|number| Refused { number, place: 0 }.meaning()).collect();
+    for (number, meaning) in (1..).zip(&meanings[..14]) {
+        let line = format!("laddertick: -: refused ({number}): {meaning}");
+        assert!(printed.lines().any(|said| said == line), "{line}");
+    }
+    assert_eq!(meanings[14], "the buffer is too short");
+    assert_eq!(meanings[15], "a walk whose place is past the end, or whose pending count is above its place");
+    assert_eq!(Refused { number: 17, place: 0 }.meaning(), "unknown");
 }
 
 #[test]
