@@ -12,10 +12,10 @@ pub fn flat_step(a: Step) -> Answer
     ensures { λ r. ⌜ r ≡ flatOf (answerOf a) ⌝ }
 {
     match a {
-        Step::Element(e, st) => flat_element(e, st),
+        Step::Element(st, e) => flat_element(e, st),
         Step::Clear(st) => event(17, 0, 0, 0, st),
-        Step::Print(p, st) => event(0, 0, 0, p.count, st),
+        Step::Print(st, p) => event(0, 0, 0, p.count, st),
         Step::End(st) => event(18, 0, 0, 0, st),
-        Step::Refused(k, place, st) => event(255, k.number(), place, 0, st),
+        Step::Refused(st, k, place) => event(255, k.number(), place, 0, st),
     }
 }

@@ -140,11 +140,11 @@ module _ (s : List ℕ) (w : WalkState) (r q : Step) (e : answerOf r ≡ step ep
 
 -- an answer that is no element begins with none
 pub lead-none : (s : List ℕ) (q : Step) → OneOf (1 ∷ 2 ∷ 3 ∷ 4 ∷ []) (tagOf (declared enum) q) → linesOf (lead epl (List ℕ) frameOf s (onStep s q)) ≡ []
-lead-none s (Element x v) h = absurd (miss (1 ∷ 2 ∷ 3 ∷ 4 ∷ []) 0 tt h)
+lead-none s (Element v x) h = absurd (miss (1 ∷ 2 ∷ 3 ∷ 4 ∷ []) 0 tt h)
 lead-none s (Clear v) h = refl
-lead-none s (Print n v) h = refl
+lead-none s (Print v n) h = refl
 lead-none s (End v) h = refl
-lead-none s (Refused k p v) h = refl
+lead-none s (Refused v k p) h = refl
 
 -- the stores of one text and then of another
 pub put-both : {m n l : List ℕ} {at j r : ℕ} (xs ys : List ℕ) → Put m l at xs j → Put n m j ys r → Put n l at (xs ++ ys) r

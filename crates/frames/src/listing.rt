@@ -24,7 +24,7 @@ fn put_elements(input: &[u8], out: &mut [u8], at: usize, st: WalkState) -> usize
     let mut to = at;
     let mut here = st;
     loop {
-        let Step::Element(e, next) = step(input, here) else {
+        let Step::Element(next, e) = step(input, here) else {
             return to;
         };
         to = put_frame(input, out, to, e);
@@ -51,14 +51,14 @@ fn put_labels(input: &[u8], out: &mut [u8]) -> usize
     let mut at = 0;
     loop {
         match step(input, here) {
-            Step::Element(_, next) => {
+            Step::Element(next, _) => {
                 here = next;
             }
             Step::Clear(next) => {
                 first = next;
                 here = next;
             }
-            Step::Print(p, next) => {
+            Step::Print(next, p) => {
                 at = put_label(input, out, at, p.count, first);
                 first = next;
                 here = next;
@@ -66,7 +66,7 @@ fn put_labels(input: &[u8], out: &mut [u8]) -> usize
             Step::End(next) => {
                 return at;
             }
-            Step::Refused(k, p, next) => {
+            Step::Refused(next, k, p) => {
                 return at;
             }
         }
@@ -82,7 +82,7 @@ pub fn measure(input: &[u8]) -> Filled
     let mut pend = 0;
     loop {
         match step(input, here) {
-            Step::Element(e, next) => {
+            Step::Element(next, e) => {
                 let n = frame_len(input, e);
                 pend += 2 * n + 1;
                 here = next;
@@ -91,7 +91,7 @@ pub fn measure(input: &[u8]) -> Filled
                 pend = 0;
                 here = next;
             }
-            Step::Print(p, next) => {
+            Step::Print(next, p) => {
                 total += 11 + pend;
                 pend = 0;
                 here = next;
@@ -99,7 +99,7 @@ pub fn measure(input: &[u8]) -> Filled
             Step::End(next) => {
                 return Filled::Bytes(total);
             }
-            Step::Refused(k, p, next) => {
+            Step::Refused(next, k, p) => {
                 return Filled::Refused(k, p);
             }
         }

@@ -95,14 +95,14 @@ outcome-long s h =
 
 -- ---- answers of the code
 end-is : (r : Step) (w : WalkState) → answerOf r ≡ theory.ended (stateOf w) → r ≡ End w
-end-is (Element e x) w h = absurd (let z : _≡_ {A = ℕ} 0 1 = cc in omega arith)
+end-is (Element x e) w h = absurd (let z : _≡_ {A = ℕ} 0 1 = cc in omega arith)
 end-is (Clear x) w h = absurd (let z : _≡_ {A = ℕ} 0 1 = cc in omega arith)
-end-is (Print p x) w h = absurd (let z : _≡_ {A = ℕ} 0 1 = cc in omega arith)
+end-is (Print x p) w h = absurd (let z : _≡_ {A = ℕ} 0 1 = cc in omega arith)
 end-is (End x) w h = ap (λ (st : State LabelPosition). End (walkOf st)) same
   where
     same : stateOf x ≡ stateOf w
     same = cc
-end-is (Refused k p x) w h = absurd (let z : _≡_ {A = ℕ} 0 1 = cc in omega arith)
+end-is (Refused x k p) w h = absurd (let z : _≡_ {A = ℕ} 0 1 = cc in omega arith)
 
 -- ---- a call that fills the buffer l, by what is due to it
 module _ (d : Due) (l : List ℕ) (c : Filling) where
@@ -121,7 +121,7 @@ module _ (library : Library) where
   answers-as : (s : List ℕ) (w : WalkState) {r : Step} → library .step s w ≡ r → step epl s (stateOf w) ≡ answerOf r
   answers-as s w h = sym (library .steps s w) ∙ ap answerOf h
 
-  pub step-hands-back : (s : List ℕ) (w w′ : WalkState) (k : Refusal) (p : ℕ) → library .step s w ≡ Refused k p w′ → w′ ≡ w
+  pub step-hands-back : (s : List ℕ) (w w′ : WalkState) (k : Refusal) (p : ℕ) → library .step s w ≡ Refused w′ k p → w′ ≡ w
   step-hands-back s w w′ k p h = ap walkOf (hands-back s (stateOf w) (stateOf w′) (numberOf k) p (answers-as s w h))
 
   pub list-keeps : (s l : List ℕ) (k : Refusal) (p : ℕ) → library .list s l .answer ≡ filled.Refused k p → library .list s l .buffer ≡ l
@@ -142,11 +142,11 @@ module _ (library : Library) where
   pub outside : (s : List ℕ) (w : WalkState) → length s ≤ longest → Outside s w → answerOf (library .step s w) ≡ theory.refused 16 (w .place) (stateOf w)
   outside s w short o = library .steps s w ∙ step-outside s w short o
 
-  pub inside : (s : List ℕ) (w : WalkState) → length s ≤ longest → (Outside s w → ⊥) → (k : Refusal) (p : ℕ) (w′ : WalkState) → library .step s w ≡ Refused k p w′ → (1 ≤ numberOf k) × (numberOf k ≤ 13)
+  pub inside : (s : List ℕ) (w : WalkState) → length s ≤ longest → (Outside s w → ⊥) → (k : Refusal) (p : ℕ) (w′ : WalkState) → library .step s w ≡ Refused w′ k p → (1 ≤ numberOf k) × (numberOf k ≤ 13)
   inside s w short n k p w′ h = subst (Says Line (length s)) (answers-as s w h) (step-inside s (stateOf w) (within-of s w short n))
 
   pub ended-again : (s : List ℕ) (w w′ : WalkState) → library .step s w ≡ End w′ → library .step s w′ ≡ End w′
   ended-again s w w′ h = end-is (library .step s w′) w′ (library .steps s w′ ∙ end.ended-again epl reads s (stateOf w) (stateOf w′) (answers-as s w h))
 
-  pub data-inside : (s : List ℕ) (w w′ : WalkState) (e : LabelElement) → library .step s w ≡ Element e w′ → In (length s) e
+  pub data-inside : (s : List ℕ) (w w′ : WalkState) (e : LabelElement) → library .step s w ≡ Element w′ e → In (length s) e
   data-inside s w w′ e h = inside-laws.data-inside s (stateOf w) (stateOf w′) e (answers-as s w h)

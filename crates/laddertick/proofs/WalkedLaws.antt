@@ -24,22 +24,22 @@ over≢on : {z : Final} {st : State LabelPosition} → _≡_ {A = Then LabelPosi
 over≢on e = let z : _≡_ {A = ℕ} 0 1 = cc in omega arith
 
 next-over : (r : Step) (z : Final) → then (answerOf r) ≡ theory.over z → next r ≡ over z
-next-over (Element e w) z h = absurd (over≢on (sym h))
+next-over (Element w e) z h = absurd (over≢on (sym h))
 next-over (Clear w) z h = absurd (over≢on (sym h))
-next-over (Print p w) z h = absurd (over≢on (sym h))
+next-over (Print w p) z h = absurd (over≢on (sym h))
 next-over (End w) z h = cc
-next-over (Refused k p w) z h = cc
+next-over (Refused w k p) z h = cc
 
 -- the state that a walk goes on from
 same-on : {st st′ : State LabelPosition} → _≡_ {A = Then LabelPosition} (theory.on-from st) (theory.on-from st′) → st ≡ st′
 same-on e = cc
 
 next-on : (r : Step) (st : State LabelPosition) → then (answerOf r) ≡ theory.on-from st → next r ≡ on-from (walkOf st)
-next-on (Element e w) st h = ap (λ (x : State LabelPosition). on-from (walkOf x)) (same-on h)
+next-on (Element w e) st h = ap (λ (x : State LabelPosition). on-from (walkOf x)) (same-on h)
 next-on (Clear w) st h = ap (λ (x : State LabelPosition). on-from (walkOf x)) (same-on h)
-next-on (Print p w) st h = ap (λ (x : State LabelPosition). on-from (walkOf x)) (same-on h)
+next-on (Print w p) st h = ap (λ (x : State LabelPosition). on-from (walkOf x)) (same-on h)
 next-on (End w) st h = absurd (over≢on h)
-next-on (Refused k p w) st h = absurd (over≢on h)
+next-on (Refused w k p) st h = absurd (over≢on h)
 
 -- ---- one walk
 next-differs : {z : Final} {w : WalkState} → _≡_ {A = Next} (over z) (on-from w) → ⊥
@@ -75,8 +75,8 @@ module _ (g : List ℕ → WalkState → Step) (meets : (s : List ℕ) (w : Walk
 
 pub answered-is : (s : List ℕ) (p : List (List ℕ)) (xs : List Step) → theory.answered epl (List ℕ) frameOf s p (map answerOf xs) ≡ answered s p xs
 answered-is s p [] = refl
-answered-is s p (Element e w ∷ xs) = answered-is s (p ++ (frameOf s e ∷ [])) xs
+answered-is s p (Element w e ∷ xs) = answered-is s (p ++ (frameOf s e ∷ [])) xs
 answered-is s p (Clear w ∷ xs) = answered-is s [] xs
-answered-is s p (Print q w ∷ xs) = λ i. record { count = q .count; says = tt; frames = p } ∷ answered-is s [] xs i
+answered-is s p (Print w q ∷ xs) = λ i. record { count = q .count; says = tt; frames = p } ∷ answered-is s [] xs i
 answered-is s p (End w ∷ xs) = answered-is s p xs
-answered-is s p (Refused k n w ∷ xs) = answered-is s p xs
+answered-is s p (Refused w k n ∷ xs) = answered-is s p xs

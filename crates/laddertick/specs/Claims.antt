@@ -72,7 +72,7 @@ pub record Divides (s : List ℕ) (ls : List FramedLabel) : Type 0 where
 -- ends and that every call returns is what `Proved` says of every call; no entry point has a `requires`.)
 pub record Demand1 (library : Library) : Type 0 where
   -- "A refused walk step hands its state back"
-  pub step-hands-back : (s : List ℕ) (w w′ : WalkState) (k : Refusal) (p : ℕ) → library .step s w ≡ Refused k p w′ → w′ ≡ w
+  pub step-hands-back : (s : List ℕ) (w w′ : WalkState) (k : Refusal) (p : ℕ) → library .step s w ≡ Refused w′ k p → w′ ≡ w
   -- "a refused call leaves each lent buffer byte for byte as it came"
   pub list-keeps : (s l : List ℕ) (k : Refusal) (p : ℕ) → library .list s l .answer ≡ filled.Refused k p → library .list s l .buffer ≡ l
   pub normalise-keeps : (s l : List ℕ) (k : Refusal) (p : ℕ) → library .normalise s l .answer ≡ filled.Refused k p → library .normalise s l .buffer ≡ l
@@ -83,11 +83,11 @@ pub record Demand1 (library : Library) : Type 0 where
   -- ".. 16 ..": "walk state with its place past the end, or its pending count above its place (place: as given)", whatever the string says
   pub outside : (s : List ℕ) (w : WalkState) → length s ≤ longest → Outside s w → answerOf (library .step s w) ≡ refused 16 (w .place) (stateOf w)
   -- ".. then the earliest refused line": from any other state a refusal is one of 1 to 13
-  pub inside : (s : List ℕ) (w : WalkState) → length s ≤ longest → (Outside s w → ⊥) → (k : Refusal) (p : ℕ) (w′ : WalkState) → library .step s w ≡ Refused k p w′ → (1 ≤ numberOf k) × (numberOf k ≤ 13)
+  pub inside : (s : List ℕ) (w : WalkState) → length s ≤ longest → (Outside s w → ⊥) → (k : Refusal) (p : ℕ) (w′ : WalkState) → library .step s w ≡ Refused w′ k p → (1 ≤ numberOf k) × (numberOf k ≤ 13)
   -- "then the end is answered, again and again", with the same state
   pub ended-again : (s : List ℕ) (w w′ : WalkState) → library .step s w ≡ End w′ → library .step s w′ ≡ End w′
   -- the data that a step answers lies within the input, so that a host which reads it stays inside what it lent
-  pub data-inside : (s : List ℕ) (w w′ : WalkState) (e : LabelElement) → library .step s w ≡ Element e w′ → In (length s) e
+  pub data-inside : (s : List ℕ) (w w′ : WalkState) (e : LabelElement) → library .step s w ≡ Element w′ e → In (length s) e
   pub numbered : (k : Refusal) → (1 ≤ numberOf k) × (numberOf k ≤ 16)
 
 -- demand 2: the command forms, from 01's words. The definitions that the code's readers are proved equal to (`commandOf`, `wellFormed`, `first`, `acts`, `fieldOr`)

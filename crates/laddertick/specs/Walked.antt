@@ -18,11 +18,11 @@ pub data Next : Type 0 where
   over : Final → Next
 
 abbrev pub next : Step → Next
-next (Element e w) = on-from w
+next (Element w e) = on-from w
 next (Clear w) = on-from w
-next (Print p w) = on-from w
+next (Print w p) = on-from w
 next (End w) = over accepted
-next (Refused k p w) = over (refusal (numberOf k) p)
+next (Refused w k p) = over (refusal (numberOf k) p)
 
 -- from a state, these answers and then this end, each step given the state that the last one returned
 pub data Walked (f : WalkState → Step) : WalkState → List Step → Final → Type 0 where
@@ -36,8 +36,8 @@ Outside s w = (length s < w .place) ⊎ (w .place < w .pending)
 -- "Labels answered: at each print, what it carries and the elements since the start or the last clear or print", the elements by their frames
 abbrev pub answered : List ℕ → List (List ℕ) → List Step → List FramedLabel
 answered s p [] = []
-answered s p (Element e w ∷ xs) = answered s (p ++ (frameOf s e ∷ [])) xs
+answered s p (Element w e ∷ xs) = answered s (p ++ (frameOf s e ∷ [])) xs
 answered s p (Clear w ∷ xs) = answered s [] xs
-answered s p (Print q w ∷ xs) = record { count = q .count; says = tt; frames = p } ∷ answered s [] xs
+answered s p (Print w q ∷ xs) = record { count = q .count; says = tt; frames = p } ∷ answered s [] xs
 answered s p (End w ∷ xs) = answered s p xs
-answered s p (Refused k n w ∷ xs) = answered s p xs
+answered s p (Refused w k n ∷ xs) = answered s p xs

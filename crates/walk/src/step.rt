@@ -22,7 +22,7 @@ fn at_end(at: usize, reference: LabelPosition, n: usize) -> Step
         pending: 0,
     };
     if 0 < n {
-        Step::Print(Printed { count: n }, st)
+        Step::Print(st, Printed { count: n })
     } else {
         Step::End(st)
     }
@@ -33,15 +33,15 @@ pub fn step(input: &[u8], st: WalkState) -> Step
     ensures { λ r. ⌜ answerOf r ≡ step epl (now (input .entry)) (stateOf st) ⌝ }
 {
     if INPUT_MAX < input.len() {
-        return Step::Refused(Refusal::InputTooLong, 0, st);
+        return Step::Refused(st, Refusal::InputTooLong, 0);
     }
     let mut at = st.place;
     if input.len() < at {
-        return Step::Refused(Refusal::StateOutside, at, st);
+        return Step::Refused(st, Refusal::StateOutside, at);
     }
     let n = st.pending;
     if at < n {
-        return Step::Refused(Refusal::StateOutside, at, st);
+        return Step::Refused(st, Refusal::StateOutside, at);
     }
     let mut reference = st.reference;
     loop {
@@ -50,7 +50,7 @@ pub fn step(input: &[u8], st: WalkState) -> Step
                 return at_end(at, reference, n);
             }
             UnitReading::Fault(k) => {
-                return Step::Refused(k, at, st);
+                return Step::Refused(st, k, at);
             }
             UnitReading::Passed(size, p) => {
                 at += size;
@@ -65,23 +65,23 @@ pub fn step(input: &[u8], st: WalkState) -> Step
             }
             UnitReading::Element(e, size) => {
                 return Step::Element(
-                    e,
                     WalkState {
                         place: at + size,
                         reference,
                         pending: n + 1,
                     },
+                    e,
                 );
             }
             UnitReading::Print(size) => {
                 if 0 < n {
                     return Step::Print(
-                        Printed { count: n },
                         WalkState {
                             place: at + size,
                             reference,
                             pending: 0,
                         },
+                        Printed { count: n },
                     );
                 }
                 at += size;

@@ -35,20 +35,20 @@ moved d q k = moved-by (d .before .before .before .before .args .input .now) (d 
 -- at an element, with the length of its frame
 record Told (c : tie.After-frame-len Inv-loop μ-loop) : Type 0 where
   short : length (c .before .before .before .before .before .before .before .before .args .input .now) ≤ 16777216
-  further : c .before .before .before .before .before .loop .here .place + 1 ≤ c .before .before .e .given .0 .1 .0 .place
-  inside : c .before .before .e .given .0 .1 .0 .place ≤ length (c .before .before .before .before .before .before .before .before .args .input .now)
-  one : c .before .before .e .given .0 .1 .0 .pending ≡ c .before .before .before .before .before .loop .here .pending + 1
+  further : c .before .before .before .before .before .loop .here .place + 1 ≤ c .before .before .next .given .0 .0 .place
+  inside : c .before .before .next .given .0 .0 .place ≤ length (c .before .before .before .before .before .before .before .before .args .input .now)
+  one : c .before .before .next .given .0 .0 .pending ≡ c .before .before .before .before .before .loop .here .pending + 1
   small : c .frame-len .result ≤ 4294967295
 
 told : (c : tie.After-frame-len Inv-loop μ-loop) → Told c
 told c =
-    let m = moved (c .before .before .before .before) (Element (c .before .before .e .given .0 .0) (c .before .before .e .given .0 .1 .0)) (c .before .before .e .given .1) in
+    let m = moved (c .before .before .before .before) (Element (c .before .before .next .given .0 .0) (c .before .before .next .given .0 .1 .0)) (c .before .before .next .given .1) in
     record {
       short = m .0 .short;
       further = omega (arith, m .1);
       inside = m .2;
       one = omega (arith, m .3);
-      small = frame-len-le (c .before .before .before .before .before .before .before .before .args .input .now) (c .before .before .e .given .0 .0) (c .frame-len .result) (c .frame-len .ensures);
+      small = frame-len-le (c .before .before .before .before .before .before .before .before .args .input .now) (c .before .before .next .given .0 .1 .0) (c .frame-len .result) (c .frame-len .ensures);
     }
 
 start-requires : tie.Need-start-requires Inv-loop μ-loop
@@ -60,8 +60,8 @@ loop-holds c = (ap (λ (w : WalkState). sizeFrom (c .before .before .args .input
 step-requires : tie.Need-step-requires Inv-loop μ-loop
 step-requires c κs = search needs
 
-enum-known-e : tie.Need-enum-known-e Inv-loop μ-loop
-enum-known-e c = search needs
+enum-known-next : tie.Need-enum-known-next Inv-loop μ-loop
+enum-known-next c = search needs
 
 frame-len-requires : tie.Need-frame-len-requires Inv-loop μ-loop
 frame-len-requires c κs = search needs
@@ -82,58 +82,58 @@ loop-again : tie.Need-loop-again Inv-loop μ-loop
 loop-again c =
     let d = c .before .before .before .before in
     let s = d .before .before .before .before .args .input .now in
-    let e = c .before .before .e .given .0 .0 in
-    let next = c .before .before .e .given .0 .1 .0 in
+    let e = c .before .before .next .given .0 .1 .0 in
+    let next = c .before .before .next .given .0 .0 in
     let t = told c in (
-      counted d (Element e next) (c .before .before .e .given .1) ∙ ap (λ (m : ℕ). sizeFrom s (d .before .loop .total) (d .before .loop .pend + (2 * m + 1)) (traceOf s next)) (sym (c .frame-len .ensures ∙ frame-len-is s e (t .short))),
+      counted d (Element next e) (c .before .before .next .given .1) ∙ ap (λ (m : ℕ). sizeFrom s (d .before .loop .total) (d .before .loop .pend + (2 * m + 1)) (traceOf s next)) (sym (c .frame-len .ensures ∙ frame-len-is s e (t .short))),
       omega (arith, t .small, t .further, t .one),
     )
-
-enum-known-next : tie.Need-enum-known-next Inv-loop μ-loop
-enum-known-next c = search needs
-
-loop-less-2 : tie.Need-loop-less-2 Inv-loop μ-loop
-loop-less-2 c = let m = moved (c .before .before .before) (Clear (c .before .next .given .0 .0)) (c .before .next .given .1) in omega (arith, m .1, m .2, m .3)
-
-loop-again-2 : tie.Need-loop-again-2 Inv-loop μ-loop
-loop-again-2 c =
-    let m = moved (c .before .before .before) (Clear (c .before .next .given .0 .0)) (c .before .next .given .1) in
-    (counted (c .before .before .before) (Clear (c .before .next .given .0 .0)) (c .before .next .given .1), omega (arith, m .1, m .3))
-
-enum-known-p : tie.Need-enum-known-p Inv-loop μ-loop
-enum-known-p c = search needs
-
-add-total : tie.Need-add-total Inv-loop μ-loop
-add-total c =
-    let m = moved (c .before .before .before) (Print (c .before .p .given .0 .0) (c .before .p .given .0 .1 .0)) (c .before .p .given .1) in
-    omega (arith, m .0 .short, m .1, m .2, m .4, m .5)
-
-add-total-2 : tie.Need-add-total-2 Inv-loop μ-loop
-add-total-2 c =
-    let m = moved (c .before .before .before) (Print (c .before .p .given .0 .0) (c .before .p .given .0 .1 .0)) (c .before .p .given .1) in
-    omega (arith, m .0 .short, m .1, m .2, m .4, m .5)
-
-loop-less-3 : tie.Need-loop-less-3 Inv-loop μ-loop
-loop-less-3 c =
-    let m = moved (c .before .before .before) (Print (c .before .p .given .0 .0) (c .before .p .given .0 .1 .0)) (c .before .p .given .1) in
-    omega (arith, m .1, m .2, m .3, m .4, m .5)
-
-loop-again-3 : tie.Need-loop-again-3 Inv-loop μ-loop
-loop-again-3 c =
-    let m = moved (c .before .before .before) (Print (c .before .p .given .0 .0) (c .before .p .given .0 .1 .0)) (c .before .p .given .1) in
-    (counted (c .before .before .before) (Print (c .before .p .given .0 .0) (c .before .p .given .0 .1 .0)) (c .before .p .given .1), omega (arith, m .1, m .3, m .4, m .5))
 
 enum-known-next-2 : tie.Need-enum-known-next-2 Inv-loop μ-loop
 enum-known-next-2 c = search needs
 
-returns : tie.Need-returns Inv-loop μ-loop
-returns c = sym (size-is (c .before .before .before .before .before .before .before .args .input .now) ∙ counted (c .before .before .before) (End (c .before .next2 .given .0 .0)) (c .before .next2 .given .1))
+loop-less-2 : tie.Need-loop-less-2 Inv-loop μ-loop
+loop-less-2 c = let m = moved (c .before .before .before) (Clear (c .before .next2 .given .0 .0)) (c .before .next2 .given .1) in omega (arith, m .1, m .2, m .3)
 
-enum-known-k : tie.Need-enum-known-k Inv-loop μ-loop
-enum-known-k c = search needs
+loop-again-2 : tie.Need-loop-again-2 Inv-loop μ-loop
+loop-again-2 c =
+    let m = moved (c .before .before .before) (Clear (c .before .next2 .given .0 .0)) (c .before .next2 .given .1) in
+    (counted (c .before .before .before) (Clear (c .before .next2 .given .0 .0)) (c .before .next2 .given .1), omega (arith, m .1, m .3))
+
+enum-known-next-3 : tie.Need-enum-known-next-3 Inv-loop μ-loop
+enum-known-next-3 c = search needs
+
+add-total : tie.Need-add-total Inv-loop μ-loop
+add-total c =
+    let m = moved (c .before .before .before) (Print (c .before .next3 .given .0 .0) (c .before .next3 .given .0 .1 .0)) (c .before .next3 .given .1) in
+    omega (arith, m .0 .short, m .1, m .2, m .4, m .5)
+
+add-total-2 : tie.Need-add-total-2 Inv-loop μ-loop
+add-total-2 c =
+    let m = moved (c .before .before .before) (Print (c .before .next3 .given .0 .0) (c .before .next3 .given .0 .1 .0)) (c .before .next3 .given .1) in
+    omega (arith, m .0 .short, m .1, m .2, m .4, m .5)
+
+loop-less-3 : tie.Need-loop-less-3 Inv-loop μ-loop
+loop-less-3 c =
+    let m = moved (c .before .before .before) (Print (c .before .next3 .given .0 .0) (c .before .next3 .given .0 .1 .0)) (c .before .next3 .given .1) in
+    omega (arith, m .1, m .2, m .3, m .4, m .5)
+
+loop-again-3 : tie.Need-loop-again-3 Inv-loop μ-loop
+loop-again-3 c =
+    let m = moved (c .before .before .before) (Print (c .before .next3 .given .0 .0) (c .before .next3 .given .0 .1 .0)) (c .before .next3 .given .1) in
+    (counted (c .before .before .before) (Print (c .before .next3 .given .0 .0) (c .before .next3 .given .0 .1 .0)) (c .before .next3 .given .1), omega (arith, m .1, m .3, m .4, m .5))
+
+enum-known-next-4 : tie.Need-enum-known-next-4 Inv-loop μ-loop
+enum-known-next-4 c = search needs
+
+returns : tie.Need-returns Inv-loop μ-loop
+returns c = sym (size-is (c .before .before .before .before .before .before .before .args .input .now) ∙ counted (c .before .before .before) (End (c .before .next4 .given .0 .0)) (c .before .next4 .given .1))
+
+enum-known-next-5 : tie.Need-enum-known-next-5 Inv-loop μ-loop
+enum-known-next-5 c = search needs
 
 returns-2 : tie.Need-returns-2 Inv-loop μ-loop
-returns-2 c = sym (size-is (c .before .before .before .before .before .before .before .args .input .now) ∙ counted (c .before .before .before) (Refused (c .before .k .given .0 .0) (c .before .k .given .0 .1 .0) (c .before .k .given .0 .1 .1 .0)) (c .before .k .given .1))
+returns-2 c = sym (size-is (c .before .before .before .before .before .before .before .args .input .now) ∙ counted (c .before .before .before) (Refused (c .before .next5 .given .0 .0) (c .before .next5 .given .0 .1 .0) (c .before .next5 .given .0 .1 .1 .0)) (c .before .next5 .given .1))
 
 pub measure-spec : {M : Type 1} → statement M
 measure-spec =
@@ -144,22 +144,22 @@ measure-spec =
     start-requires
     loop-holds
     step-requires
-    enum-known-e
+    enum-known-next
     frame-len-requires
     mul-pend
     add-pend
     add-pend-2
     loop-less
     loop-again
-    enum-known-next
+    enum-known-next-2
     loop-less-2
     loop-again-2
-    enum-known-p
+    enum-known-next-3
     add-total
     add-total-2
     loop-less-3
     loop-again-3
-    enum-known-next-2
+    enum-known-next-4
     returns
-    enum-known-k
+    enum-known-next-5
     returns-2)

@@ -38,8 +38,8 @@ loop-holds c = begin _ _ _
 step-requires : tie.Need-step-requires Inv-loop μ-loop
 step-requires c κs = search needs
 
-enum-known-e : tie.Need-enum-known-e Inv-loop μ-loop
-enum-known-e c = search needs
+enum-known-next : tie.Need-enum-known-next Inv-loop μ-loop
+enum-known-next c = search needs
 
 same-length : tie.Need-same-length Inv-loop μ-loop
 same-length c = c .before .before .loop .inv .long
@@ -53,15 +53,15 @@ put-frame-requires : tie.Need-put-frame-requires Inv-loop μ-loop
 put-frame-requires c κs =
     let d = c .before .before .before .before in
     let s = d .before .before .before .before .args .input .now in
-    room (d .before .loop .inv) (lineOf (frameOf s (c .before .before .e .given .0 .0))) (linesOf (frontFrames s (c .before .before .e .given .0 .1 .0))) (d .before .before .before .before .pre) (rest-is d (Element (c .before .before .e .given .0 .0) (c .before .before .e .given .0 .1 .0)) (c .before .before .e .given .1))
+    room (d .before .loop .inv) (lineOf (frameOf s (c .before .before .next .given .0 .1 .0))) (linesOf (frontFrames s (c .before .before .next .given .0 .0))) (d .before .before .before .before .pre) (rest-is d (Element (c .before .before .next .given .0 .0) (c .before .before .next .given .0 .1 .0)) (c .before .before .next .given .1))
 
 loop-less : tie.Need-loop-less Inv-loop μ-loop
-loop-less c = omega (arith, moved (c .before .before .before .before .before .before .before) (Element (c .before .before .before .before .before .e .given .0 .0) (c .before .before .before .before .before .e .given .0 .1 .0)) (c .before .before .before .before .before .e .given .1))
+loop-less c = omega (arith, moved (c .before .before .before .before .before .before .before) (Element (c .before .before .before .before .before .next .given .0 .0) (c .before .before .before .before .before .next .given .0 .1 .0)) (c .before .before .before .before .before .next .given .1))
 
 loop-again : tie.Need-loop-again Inv-loop μ-loop
 loop-again c =
     let d = c .before .before .before .before .before .before .before in
-    put (d .before .loop .inv) (linesOf (frontFrames (d .before .before .before .before .args .input .now) (c .before .before .before .before .before .e .given .0 .1 .0))) (rest-is d (Element (c .before .before .before .before .before .e .given .0 .0) (c .before .before .before .before .before .e .given .0 .1 .0)) (c .before .before .before .before .before .e .given .1)) (c .before .before .put-frame .ensures)
+    put (d .before .loop .inv) (linesOf (frontFrames (d .before .before .before .before .args .input .now) (c .before .before .before .before .before .next .given .0 .0))) (rest-is d (Element (c .before .before .before .before .before .next .given .0 .0) (c .before .before .before .before .before .next .given .0 .1 .0)) (c .before .before .before .before .before .next .given .1)) (c .before .before .put-frame .ensures)
 
 pub put-elements-spec : {M : Type 1} → statement M
 put-elements-spec =
@@ -71,7 +71,7 @@ put-elements-spec =
     μ-loop
     loop-holds
     step-requires
-    enum-known-e
+    enum-known-next
     same-length
     returns
     put-frame-requires

@@ -70,40 +70,40 @@ loop-less-2 c = omega (arith, moved (c .before .before .before) (Clear (c .befor
 loop-again-2 : tie.Need-loop-again-2 Inv-loop μ-loop
 loop-again-2 c = (retold (c .before .before .before .before .loop .inv .0) (rest-is (c .before .before .before) (Clear (c .before .next2 .given .0 .0)) (c .before .next2 .given .1)), refl)
 
-enum-known-p : tie.Need-enum-known-p Inv-loop μ-loop
-enum-known-p c = search needs
+enum-known-next-3 : tie.Need-enum-known-next-3 Inv-loop μ-loop
+enum-known-next-3 c = search needs
 
 put-label-requires : tie.Need-put-label-requires Inv-loop μ-loop
 put-label-requires c κs =
     let d = c .before .before .before .before in
     let l = d .before .loop in
-    room (l .inv .0) (labelText (d .before .before .before .before .before .before .args .input .now) (c .before .before .p .given .0 .0 .count) (l .first)) (textFrom (d .before .before .before .before .before .before .args .input .now) (c .before .before .p .given .0 .1 .0)) (omega arith) (rest-is d (Print (c .before .before .p .given .0 .0) (c .before .before .p .given .0 .1 .0)) (c .before .before .p .given .1))
+    room (l .inv .0) (labelText (d .before .before .before .before .before .before .args .input .now) (c .before .before .next3 .given .0 .1 .0 .count) (l .first)) (textFrom (d .before .before .before .before .before .before .args .input .now) (c .before .before .next3 .given .0 .0)) (omega arith) (rest-is d (Print (c .before .before .next3 .given .0 .0) (c .before .before .next3 .given .0 .1 .0)) (c .before .before .next3 .given .1))
 
 loop-less-3 : tie.Need-loop-less-3 Inv-loop μ-loop
-loop-less-3 c = omega (arith, moved (c .before .before .before .before .before .before .before) (Print (c .before .before .before .before .before .p .given .0 .0) (c .before .before .before .before .before .p .given .0 .1 .0)) (c .before .before .before .before .before .p .given .1))
+loop-less-3 c = omega (arith, moved (c .before .before .before .before .before .before .before) (Print (c .before .before .before .before .before .next3 .given .0 .0) (c .before .before .before .before .before .next3 .given .0 .1 .0)) (c .before .before .before .before .before .next3 .given .1))
 
 loop-again-3 : tie.Need-loop-again-3 Inv-loop μ-loop
 loop-again-3 c =
     let d = c .before .before .before .before .before .before .before in
-    (put (d .before .loop .inv .0) (textFrom (d .before .before .before .before .before .before .args .input .now) (c .before .before .before .before .before .p .given .0 .1 .0)) (rest-is d (Print (c .before .before .before .before .before .p .given .0 .0) (c .before .before .before .before .before .p .given .0 .1 .0)) (c .before .before .before .before .before .p .given .1)) (c .before .before .put-label .ensures), refl)
+    (put (d .before .loop .inv .0) (textFrom (d .before .before .before .before .before .before .args .input .now) (c .before .before .before .before .before .next3 .given .0 .0)) (rest-is d (Print (c .before .before .before .before .before .next3 .given .0 .0) (c .before .before .before .before .before .next3 .given .0 .1 .0)) (c .before .before .before .before .before .next3 .given .1)) (c .before .before .put-label .ensures), refl)
 
-enum-known-next-3 : tie.Need-enum-known-next-3 Inv-loop μ-loop
-enum-known-next-3 c = search needs
+enum-known-next-4 : tie.Need-enum-known-next-4 Inv-loop μ-loop
+enum-known-next-4 c = search needs
 
 same-length : tie.Need-same-length Inv-loop μ-loop
 same-length c = c .before .before .before .before .loop .inv .0 .long
 
 returns : tie.Need-returns Inv-loop μ-loop
-returns c = finish (c .before .before .before .before .loop .inv .0) (rest-is (c .before .before .before) (End (c .before .next3 .given .0 .0)) (c .before .next3 .given .1))
+returns c = finish (c .before .before .before .before .loop .inv .0) (rest-is (c .before .before .before) (End (c .before .next4 .given .0 .0)) (c .before .next4 .given .1))
 
-enum-known-k : tie.Need-enum-known-k Inv-loop μ-loop
-enum-known-k c = search needs
+enum-known-next-5 : tie.Need-enum-known-next-5 Inv-loop μ-loop
+enum-known-next-5 c = search needs
 
 same-length-2 : tie.Need-same-length-2 Inv-loop μ-loop
 same-length-2 c = c .before .before .before .before .loop .inv .0 .long
 
 returns-2 : tie.Need-returns-2 Inv-loop μ-loop
-returns-2 c = finish (c .before .before .before .before .loop .inv .0) (rest-is (c .before .before .before) (Refused (c .before .k .given .0 .0) (c .before .k .given .0 .1 .0) (c .before .k .given .0 .1 .1 .0)) (c .before .k .given .1))
+returns-2 c = finish (c .before .before .before .before .loop .inv .0) (rest-is (c .before .before .before) (Refused (c .before .next5 .given .0 .0) (c .before .next5 .given .0 .1 .0) (c .before .next5 .given .0 .1 .1 .0)) (c .before .next5 .given .1))
 
 pub put-labels-spec : {M : Type 1} → statement M
 put-labels-spec =
@@ -121,13 +121,13 @@ put-labels-spec =
     enum-known-next-2
     loop-less-2
     loop-again-2
-    enum-known-p
+    enum-known-next-3
     put-label-requires
     loop-less-3
     loop-again-3
-    enum-known-next-3
+    enum-known-next-4
     same-length
     returns
-    enum-known-k
+    enum-known-next-5
     same-length-2
     returns-2)

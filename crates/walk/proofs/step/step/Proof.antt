@@ -121,8 +121,8 @@ returns-7 c = rw add-one (taken (c .before .before .before) (Element (c .before 
 enum-known-size-3 : tie.Need-enum-known-size-3 Inv-loop μ-loop
 enum-known-size-3 c = search needs
 
-add-t31 : tie.Need-add-t31 Inv-loop μ-loop
-add-t31 c = omega (arith, room (c .before .before .before .before) (Print (c .before .before .size3 .given .0 .0)) (c .before .before .size3 .given .1))
+add-t30 : tie.Need-add-t30 Inv-loop μ-loop
+add-t30 c = omega (arith, room (c .before .before .before .before) (Print (c .before .before .size3 .given .0 .0)) (c .before .before .size3 .given .1))
 
 returns-8 : tie.Need-returns-8 Inv-loop μ-loop
 returns-8 c =
@@ -176,7 +176,7 @@ step-spec =
     add-t27
     returns-7
     enum-known-size-3
-    add-t31
+    add-t30
     returns-8
     add-at-2
     loop-less-2
