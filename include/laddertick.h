@@ -86,10 +86,9 @@ enum {
     LADDERTICK_REFUSED = 255 /* `number` and `place`; `next` is the walk as you gave it */
 };
 
-/* An answer. A field that its kind does not name is 0. Positions and sizes are in dots. */
-typedef struct laddertick_answer {
-    uint8_t kind;
-    uint8_t number;    /* refusal: its number */
+/* What a command draws. A field that its kind does not name is 0. Positions and sizes are in dots. */
+typedef struct laddertick_element {
+    uint8_t kind;      /* 1 to 16; 0 where an answer has no element */
     uint8_t rotation;  /* text, 1D bar codes, PDF417: quarter turns as the file says them, 0 to 3 */
     uint8_t reverse;   /* text: 1 white on black */
     uint8_t colour;    /* box: 0 black, 1 white */
@@ -113,11 +112,18 @@ typedef struct laddertick_answer {
     double text_height;    /* text: the cell's height and width */
     double text_width;
     double ratio;      /* 2 of 5, Code 39: wide bar to narrow bar, at least 2 */
-    size_t place;      /* refusal: its place */
-    size_t count;      /* print: how many elements */
     size_t data_start; /* text, graphic, bar codes: where the data stands in the input, always inside it, and its bytes there. A graphic's are its dots, row by row, as the */
     size_t data_len;   /* file has them (the Rust that this is a port of draws a 1 bit black); all others are text that laddertick_data decodes */
-    laddertick_walk next; /* for the next step */
+} laddertick_element;
+
+/* An answer. A field that its kind does not name is 0. */
+typedef struct laddertick_answer {
+    uint8_t kind;
+    uint8_t number;             /* refusal: its number */
+    size_t place;               /* refusal: its place */
+    size_t count;               /* print: how many elements */
+    laddertick_walk next;       /* for the next step */
+    laddertick_element element; /* an element, of the same kind; of any other answer every field of it is 0 */
 } laddertick_answer;
 
 /* The walk before the first byte: place 0, reference 0,0, nothing pending. */

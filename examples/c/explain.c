@@ -17,59 +17,59 @@ static const char *const KINDS[] = {
 static const char *const MODES[] = {"", "UCC", "automatic", "EAN"};
 
 /* The bars of a 1D bar code. */
-static void put_bars(laddertick_answer a)
+static void put_bars(laddertick_element e)
 {
-    printf(", narrow %" PRId32 ", height %" PRId32, a.width, a.height);
-    if (a.kind == LADDERTICK_CODE_128)
-        printf(", mode %s", MODES[a.mode]);
-    if (a.kind == LADDERTICK_2_OF_5 || a.kind == LADDERTICK_CODE_39)
-        printf(", ratio %.17g%s", a.ratio, a.check ? ", check digit" : "");
-    if (a.line)
+    printf(", narrow %" PRId32 ", height %" PRId32, e.width, e.height);
+    if (e.kind == LADDERTICK_CODE_128)
+        printf(", mode %s", MODES[e.mode]);
+    if (e.kind == LADDERTICK_2_OF_5 || e.kind == LADDERTICK_CODE_39)
+        printf(", ratio %.17g%s", e.ratio, e.check ? ", check digit" : "");
+    if (e.line)
         fputs(", with text below", stdout);
 }
 
-/* One line for the element a, which is number n of its label. */
-static void explain(const char *name, bytes input, laddertick_answer a, size_t n)
+/* One line for the element e, which is number n of its label. */
+static void explain(const char *name, bytes input, laddertick_element e, size_t n)
 {
-    printf("  %2zu. %s at %" PRId32 ",%" PRId32, n, KINDS[a.kind], a.x, a.y);
-    if (a.rotation != 0)
-        printf(", turned %d", 90 * a.rotation);
-    switch (a.kind) {
+    printf("  %2zu. %s at %" PRId32 ",%" PRId32, n, KINDS[e.kind], e.x, e.y);
+    if (e.rotation != 0)
+        printf(", turned %d", 90 * e.rotation);
+    switch (e.kind) {
     case LADDERTICK_TEXT:
-        printf(", height %.17g, width %.17g%s", a.text_height, a.text_width, a.reverse ? ", white on black" : "");
+        printf(", height %.17g, width %.17g%s", e.text_height, e.text_width, e.reverse ? ", white on black" : "");
         break;
     case LADDERTICK_BOX:
-        printf(", %" PRId32 " by %" PRId32 ", thickness %" PRId32 "%s", a.width, a.height, a.thickness, a.colour ? ", white" : "");
+        printf(", %" PRId32 " by %" PRId32 ", thickness %" PRId32 "%s", e.width, e.height, e.thickness, e.colour ? ", white" : "");
         break;
     case LADDERTICK_DIAGONAL:
-        printf(", %" PRId32 " by %" PRId32 ", thickness %" PRId32 "%s", a.width, a.height, a.thickness,
-               a.width == 0 || a.height == 0 ? "" : a.direction ? ", falling" : ", rising");
+        printf(", %" PRId32 " by %" PRId32 ", thickness %" PRId32 "%s", e.width, e.height, e.thickness,
+               e.width == 0 || e.height == 0 ? "" : e.direction ? ", falling" : ", rising");
         break;
     case LADDERTICK_GRAPHIC:
-        printf(", %" PRId32 " bytes a row, %zu bytes\n", a.row_bytes, a.data_len);
+        printf(", %" PRId32 " bytes a row, %zu bytes\n", e.row_bytes, e.data_len);
         return;
     case LADDERTICK_PDF417:
-        printf(", row height %" PRId32 ", security %" PRId32 ", columns %" PRId32 ", rows %" PRId32 ", module %" PRId32 "%s", a.height, a.security, a.columns,
-               a.rows, a.width, a.truncate ? ", truncated" : "");
+        printf(", row height %" PRId32 ", security %" PRId32 ", columns %" PRId32 ", rows %" PRId32 ", module %" PRId32 "%s", e.height, e.security, e.columns,
+               e.rows, e.width, e.truncate ? ", truncated" : "");
         break;
     case LADDERTICK_AZTEC:
-        printf(", magnification %" PRId32 ", size %" PRId32, a.magnification, a.size);
+        printf(", magnification %" PRId32 ", size %" PRId32, e.magnification, e.size);
         break;
     case LADDERTICK_DATA_MATRIX:
-        printf(", module %" PRId32 ", columns %" PRId32 ", rows %" PRId32, a.height, a.columns, a.rows);
+        printf(", module %" PRId32 ", columns %" PRId32 ", rows %" PRId32, e.height, e.columns, e.rows);
         break;
     case LADDERTICK_QR:
-        printf(", magnification %" PRId32 ", level %c", a.magnification, a.level);
+        printf(", magnification %" PRId32 ", level %c", e.magnification, e.level);
         break;
     case LADDERTICK_MAXICODE:
-        printf(", mode %" PRId32, a.mode);
+        printf(", mode %" PRId32, e.mode);
         break;
     default:
-        put_bars(a);
+        put_bars(e);
     }
-    if (a.data_len != 0) {
+    if (e.data_len != 0) {
         fputs(": ", stdout);
-        put_decoded(stdout, name, input, a.data_start, a.data_len, SIZE_MAX);
+        put_decoded(stdout, name, input, e.data_start, e.data_len, SIZE_MAX);
     }
     fputc('\n', stdout);
 }
@@ -80,7 +80,7 @@ static void explain_label(const char *name, bytes input, laddertick_walk walk, s
     printf("label %zu: %zu %s\n", label, n, n == 1 ? "element" : "elements");
     for (size_t i = 1; i <= n; i++) {
         laddertick_answer a = laddertick_step(input.at, input.len, walk);
-        explain(name, input, a, i);
+        explain(name, input, a.element, i);
         walk = a.next;
     }
 }

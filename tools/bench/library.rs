@@ -9,15 +9,23 @@ struct Walk {
     place: usize,
 }
 
-/// The flat answer: the kind, the fields that are not looked at here, and the walk's next state.
+/// The element, its fields by their types.
 #[repr(C)]
-struct Answer {
-    kind: u8,
+struct Element {
     flags: [u8; 9],
     numbers: [i32; 12],
     sizes: [f64; 3],
-    places: [usize; 4],
+    data: [usize; 2],
+}
+
+#[repr(C)]
+struct Answer {
+    kind: u8,
+    number: u8,
+    place: usize,
+    count: usize,
     next: Walk,
+    element: Element,
 }
 
 #[repr(C)]
@@ -37,10 +45,10 @@ pub fn walk(input: &[u8]) -> usize {
     let (mut walk, mut sum) = (unsafe { laddertick_start() }, 0_usize);
     loop {
         let answer = unsafe { laddertick_step(input.as_ptr(), input.len(), walk) };
-        sum = sum.wrapping_add(answer.kind as usize).wrapping_add(answer.numbers[0] as usize).wrapping_add(answer.places[3]);
+        sum = sum.wrapping_add(answer.kind as usize).wrapping_add(answer.element.numbers[0] as usize).wrapping_add(answer.element.data[1]);
         if answer.kind == 18 || answer.kind == 255 {
             // A walk that is refused early would look fast.
-            assert!(answer.kind == 18 || answer.places[0] + 8 > input.len());
+            assert!(answer.kind == 18 || answer.place + 8 > input.len());
             return sum;
         }
         walk = answer.next;

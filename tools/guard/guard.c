@@ -219,9 +219,9 @@ static uint64_t walks(int last)
             wrong("a refused step did not hand its state back");
         if (answer.kind != LADDERTICK_REFUSED && answer.kind != LADDERTICK_END && answer.next.place == walk.place && answer.next.pending == walk.pending)
             wrong("a step that does not move on");
-        sum = sum * 31 + answer.kind + answer.number + answer.place + answer.next.place + (uint32_t)answer.x + answer.data_len;
-        start = answer.data_start;
-        len = answer.data_len;
+        sum = sum * 31 + answer.kind + answer.number + answer.place + answer.next.place + (uint32_t)answer.element.x + answer.element.data_len;
+        start = answer.element.data_start;
+        len = answer.element.data_len;
         if (len > 0 && (start > input_len || len > input_len - start))
             wrong("data outside the input");
         if (len > 0)

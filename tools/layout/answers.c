@@ -12,8 +12,8 @@
 /* Two elements are pending at place 29, reference 100,200. */
 #define BEFORE "R100,200\nLO1,1,1,1\nLO1,1,1,1\n"
 static const laddertick_walk THERE = {100, 200, 2, 29};
-/* The walk after an element that ends n bytes further on. */
-#define NEXT(n) {100, 200, 3, 29 + (n)}
+/* The answer of an element of kind k that ends n bytes further on, with these fields. */
+#define ELEMENT(k, n, ...) {.kind = k, .next = {100, 200, 3, 29 + (n)}, .element = {.kind = k, __VA_ARGS__}}
 
 typedef struct one {
     const char *line;
@@ -22,32 +22,32 @@ typedef struct one {
 
 static const one CASES[] = {
     {"A1,2,3,4,5,6,R,\"seven77\"\n",
-     {.kind = 1, .rotation = 3, .reverse = 1, .x = 101, .y = 202, .text_height = 144, .text_width = 70, .data_start = 29 + 16, .data_len = 7, .next = NEXT(25)}},
-    {"LW1,2,4,3\n", {.kind = 2, .colour = 1, .x = 101, .y = 202, .width = 4, .height = 3, .thickness = 3, .next = NEXT(10)}},
-    {"X1,2,7,31,42\n", {.kind = 2, .x = 101, .y = 202, .width = 30, .height = 40, .thickness = 7, .next = NEXT(13)}},
-    {"LS1,2,7,31,42\n", {.kind = 3, .direction = 1, .x = 101, .y = 202, .width = 30, .height = 40, .thickness = 7, .next = NEXT(14)}},
-    {"GW5,6,3,2,abcdef\n", {.kind = 4, .x = 105, .y = 206, .row_bytes = 3, .data_start = 29 + 10, .data_len = 6, .next = NEXT(16)}},
+     ELEMENT(1, 25, .rotation = 3, .reverse = 1, .x = 101, .y = 202, .text_height = 144, .text_width = 70, .data_start = 29 + 16, .data_len = 7)},
+    {"LW1,2,4,3\n", ELEMENT(2, 10, .colour = 1, .x = 101, .y = 202, .width = 4, .height = 3, .thickness = 3)},
+    {"X1,2,7,31,42\n", ELEMENT(2, 13, .x = 101, .y = 202, .width = 30, .height = 40, .thickness = 7)},
+    {"LS1,2,7,31,42\n", ELEMENT(3, 14, .direction = 1, .x = 101, .y = 202, .width = 30, .height = 40, .thickness = 7)},
+    {"GW5,6,3,2,abcdef\n", ELEMENT(4, 16, .x = 105, .y = 206, .row_bytes = 3, .data_start = 29 + 10, .data_len = 6)},
     {"B1,2,2,1E,4,5,6,B,\"hello\"\n",
-     {.kind = 5, .rotation = 2, .line = 1, .x = 101, .y = 202, .width = 4, .height = 6, .mode = 3, .data_start = 29 + 19, .data_len = 5, .next = NEXT(26)}},
+     ELEMENT(5, 26, .rotation = 2, .line = 1, .x = 101, .y = 202, .width = 4, .height = 6, .mode = 3, .data_start = 29 + 19, .data_len = 5)},
     {"B1,2,3,E30,4,5,6,B,\"hello\"\n",
-     {.kind = 6, .rotation = 3, .line = 1, .x = 101, .y = 202, .width = 4, .height = 6, .data_start = 29 + 20, .data_len = 5, .next = NEXT(27)}},
+     ELEMENT(6, 27, .rotation = 3, .line = 1, .x = 101, .y = 202, .width = 4, .height = 6, .data_start = 29 + 20, .data_len = 5)},
     {"B1,2,3,E80,4,5,6,B,\"hello\"\n",
-     {.kind = 7, .rotation = 3, .line = 1, .x = 101, .y = 202, .width = 4, .height = 6, .data_start = 29 + 20, .data_len = 5, .next = NEXT(27)}},
+     ELEMENT(7, 27, .rotation = 3, .line = 1, .x = 101, .y = 202, .width = 4, .height = 6, .data_start = 29 + 20, .data_len = 5)},
     {"B1,2,3,UA0,4,5,6,B,\"hello\"\n",
-     {.kind = 8, .rotation = 3, .line = 1, .x = 101, .y = 202, .width = 4, .height = 6, .data_start = 29 + 20, .data_len = 5, .next = NEXT(27)}},
+     ELEMENT(8, 27, .rotation = 3, .line = 1, .x = 101, .y = 202, .width = 4, .height = 6, .data_start = 29 + 20, .data_len = 5)},
     {"B1,2,3,2C,4,10,6,N,\"hello\"\n",
-     {.kind = 9, .rotation = 3, .check = 1, .x = 101, .y = 202, .width = 4, .height = 6, .ratio = 2.5, .data_start = 29 + 20, .data_len = 5, .next = NEXT(27)}},
+     ELEMENT(9, 27, .rotation = 3, .check = 1, .x = 101, .y = 202, .width = 4, .height = 6, .ratio = 2.5, .data_start = 29 + 20, .data_len = 5)},
     {"B1,2,3,3,4,14,6,B,\"hello\"\n",
-     {.kind = 10, .rotation = 3, .line = 1, .x = 101, .y = 202, .width = 4, .height = 6, .ratio = 3.5, .data_start = 29 + 19, .data_len = 5, .next = NEXT(26)}},
+     ELEMENT(10, 26, .rotation = 3, .line = 1, .x = 101, .y = 202, .width = 4, .height = 6, .ratio = 3.5, .data_start = 29 + 19, .data_len = 5)},
     {"b1,2,P,o3,y17,s4,l5,r6,t1,x8\"seven77\"\n",
-     {.kind = 11, .rotation = 3, .truncate = 1, .x = 101, .y = 202, .width = 8, .height = 17, .security = 4, .columns = 5, .rows = 6, .data_start = 29 + 29, .data_len = 7, .next = NEXT(38)}},
-    {"b1,2,A,d44,e99\"hello\"\n", {.kind = 12, .x = 101, .y = 202, .magnification = 44, .size = 99, .data_start = 29 + 15, .data_len = 5, .next = NEXT(22)}},
+     ELEMENT(11, 38, .rotation = 3, .truncate = 1, .x = 101, .y = 202, .width = 8, .height = 17, .security = 4, .columns = 5, .rows = 6, .data_start = 29 + 29, .data_len = 7)},
+    {"b1,2,A,d44,e99\"hello\"\n", ELEMENT(12, 22, .x = 101, .y = 202, .magnification = 44, .size = 99, .data_start = 29 + 15, .data_len = 5)},
     {"b1,2,D,c4,r7,h6\"hello\"\n",
-     {.kind = 13, .x = 101, .y = 202, .height = 6, .columns = 4, .rows = 7, .data_start = 29 + 16, .data_len = 5, .next = NEXT(23)}},
-    {"b1,2,Q,s44,eH\"hello\"\n", {.kind = 14, .level = 'H', .x = 101, .y = 202, .magnification = 44, .data_start = 29 + 14, .data_len = 5, .next = NEXT(21)}},
-    {"b1,2,M,m3\"hello\"\n", {.kind = 15, .x = 101, .y = 202, .mode = 3, .data_start = 29 + 10, .data_len = 5, .next = NEXT(17)}},
+     ELEMENT(13, 23, .x = 101, .y = 202, .height = 6, .columns = 4, .rows = 7, .data_start = 29 + 16, .data_len = 5)},
+    {"b1,2,Q,s44,eH\"hello\"\n", ELEMENT(14, 21, .level = 'H', .x = 101, .y = 202, .magnification = 44, .data_start = 29 + 14, .data_len = 5)},
+    {"b1,2,M,m3\"hello\"\n", ELEMENT(15, 17, .x = 101, .y = 202, .mode = 3, .data_start = 29 + 10, .data_len = 5)},
     {"B1,2,3,UE0,4,5,6,B,\"hello\"\n",
-     {.kind = 16, .rotation = 3, .line = 1, .x = 101, .y = 202, .width = 4, .height = 6, .data_start = 29 + 20, .data_len = 5, .next = NEXT(27)}},
+     ELEMENT(16, 27, .rotation = 3, .line = 1, .x = 101, .y = 202, .width = 4, .height = 6, .data_start = 29 + 20, .data_len = 5)},
     {"P5\n", {.kind = 0, .count = 2, .next = {100, 200, 0, 32}}},
     {"", {.kind = 0, .count = 2, .next = {100, 200, 0, 29}}},
     {"N\n", {.kind = 17, .next = {0, 0, 0, 31}}},
@@ -112,7 +112,7 @@ static void steps(void)
     input_len = strlen(BEFORE);
     walk("the start", laddertick_start(), (laddertick_walk){0, 0, 0, 0});
     answer("the first step", laddertick_step(input, input_len, laddertick_start()),
-           (laddertick_answer){.kind = 2, .x = 101, .y = 201, .width = 1, .height = 1, .thickness = 1, .next = {100, 200, 1, 19}});
+           (laddertick_answer){.kind = 2, .next = {100, 200, 1, 19}, .element = {.kind = 2, .x = 101, .y = 201, .width = 1, .height = 1, .thickness = 1}});
     answer("the end", laddertick_step(input, input_len, (laddertick_walk){3, 4, 0, 29}), (laddertick_answer){.kind = 18, .next = {3, 4, 0, 29}});
     answer("a state outside", laddertick_step(input, input_len, (laddertick_walk){3, 4, 5, 30}),
            (laddertick_answer){.kind = 255, .number = 16, .place = 30, .next = {3, 4, 5, 30}});

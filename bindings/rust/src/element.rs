@@ -1,4 +1,4 @@
-use crate::raw::{self, Answer};
+use crate::raw;
 
 /// What a command draws.
 #[derive(Clone, Debug, PartialEq)]
@@ -78,38 +78,38 @@ pub enum QrLevel {
     L,
 }
 
-/// The element that an answer of kind 1 to 16 is.
-pub(crate) fn element(input: &[u8], a: Answer) -> Element<'_> {
-    let bars = Bars { rotation: a.rotation, narrow: a.width, height: a.height, line: a.line != 0 };
-    let (check, ratio) = (a.check != 0, a.ratio);
-    let kind = match a.kind {
-        1 => Kind::Text { rotation: a.rotation, reverse: a.reverse != 0, height: a.text_height, width: a.text_width },
-        2 => Kind::Box { width: a.width, height: a.height, thickness: a.thickness, white: a.colour != 0 },
-        3 => Kind::Diagonal { width: a.width, height: a.height, thickness: a.thickness, falls: a.direction != 0 },
-        4 => Kind::Graphic { row_bytes: a.row_bytes },
-        5 => Kind::Code128 { bars, mode: bar_mode(a.mode) },
+/// The element of an answer of kind 1 to 16.
+pub(crate) fn element(input: &[u8], e: raw::Element) -> Element<'_> {
+    let bars = Bars { rotation: e.rotation, narrow: e.width, height: e.height, line: e.line != 0 };
+    let (check, ratio) = (e.check != 0, e.ratio);
+    let kind = match e.kind {
+        1 => Kind::Text { rotation: e.rotation, reverse: e.reverse != 0, height: e.text_height, width: e.text_width },
+        2 => Kind::Box { width: e.width, height: e.height, thickness: e.thickness, white: e.colour != 0 },
+        3 => Kind::Diagonal { width: e.width, height: e.height, thickness: e.thickness, falls: e.direction != 0 },
+        4 => Kind::Graphic { row_bytes: e.row_bytes },
+        5 => Kind::Code128 { bars, mode: bar_mode(e.mode) },
         6 => Kind::Ean13(bars),
         7 => Kind::Ean8(bars),
         8 => Kind::UpcA(bars),
         9 => Kind::Interleaved2of5 { bars, check, ratio },
         10 => Kind::Code39 { bars, check, ratio },
         11 => Kind::Pdf417 {
-            rotation: a.rotation,
-            row_height: a.height,
-            security: a.security,
-            columns: a.columns,
-            rows: a.rows,
-            truncate: a.truncate != 0,
-            module_width: a.width,
+            rotation: e.rotation,
+            row_height: e.height,
+            security: e.security,
+            columns: e.columns,
+            rows: e.rows,
+            truncate: e.truncate != 0,
+            module_width: e.width,
         },
-        12 => Kind::Aztec { magnification: a.magnification, size: a.size },
-        13 => Kind::DataMatrix { module: a.height, columns: a.columns, rows: a.rows },
-        14 => Kind::Qr { magnification: a.magnification, level: qr_level(a.level) },
-        15 => Kind::Maxicode { mode: a.mode },
+        12 => Kind::Aztec { magnification: e.magnification, size: e.size },
+        13 => Kind::DataMatrix { module: e.height, columns: e.columns, rows: e.rows },
+        14 => Kind::Qr { magnification: e.magnification, level: qr_level(e.level) },
+        15 => Kind::Maxicode { mode: e.mode },
         16 => Kind::UpcE(bars),
         _ => unreachable!("the contract of laddertick_step names no other kind"),
     };
-    Element { x: a.x, y: a.y, kind, data: &input[a.data_start..][..a.data_len] }
+    Element { x: e.x, y: e.y, kind, data: &input[e.data_start..][..e.data_len] }
 }
 
 fn bar_mode(mode: i32) -> BarMode {

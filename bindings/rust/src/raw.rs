@@ -12,12 +12,11 @@ pub struct Walk {
     pub place: usize,
 }
 
-/// What a step answers; a field that its kind does not name is 0.
+/// What a command draws; a field that its kind does not name is 0.
 #[repr(C)]
 #[derive(Clone, Copy, Debug, PartialEq)]
-pub struct Answer {
+pub struct Element {
     pub kind: u8,
-    pub number: u8,
     pub rotation: u8,
     pub reverse: u8,
     pub colour: u8,
@@ -41,11 +40,20 @@ pub struct Answer {
     pub text_height: f64,
     pub text_width: f64,
     pub ratio: f64,
-    pub place: usize,
-    pub count: usize,
     pub data_start: usize,
     pub data_len: usize,
+}
+
+/// What a step answers; a field that its kind does not name is 0.
+#[repr(C)]
+#[derive(Clone, Copy, Debug, PartialEq)]
+pub struct Answer {
+    pub kind: u8,
+    pub number: u8,
+    pub place: usize,
+    pub count: usize,
     pub next: Walk,
+    pub element: Element,
 }
 
 /// Number 0: `place` bytes are written. Else a refusal.

@@ -45,7 +45,7 @@ impl<'a> Iterator for Steps<'a> {
                 self.over = true;
                 Some(Err(Refused { number: answer.number, place: answer.place }))
             }
-            _ => Some(Ok(Step::Element(element(self.input, answer)))),
+            _ => Some(Ok(Step::Element(element(self.input, answer.element)))),
         }
     }
 }

@@ -1,61 +1,50 @@
--- A flat answer has every field of its frame (`flat-frame`), and the state that the step returned (`flat-next`). Assumes nothing.
+-- A flat answer has every field of its frame (`flat-frame`), its element's kind (`flat-kind`), and the state that the
+-- step returned (`flat-next`). Assumes nothing.
 use mathlib.Core.Path.{_≡_, refl}
 use mathlib.Core.List.{List}
 use Prim.Native.Nat.{ℕ}
 use Rattle.elements.specs.declared.LabelElement.{LabelElement}
 use Rattle.elements.specs.declared.LabelElement.the-variants as kind
-use Rattle.elements.specs.declared.walk_state.WalkState.{WalkState}
 use Rattle.element_frames.specs.Frame.{be32, head, drawn, bars, plain, ratioed, rowed, frameOf}
 use Rattle.elements.specs.declared.LabelPosition.{LabelPosition}
-use Rattle.whole.specs.Step.{Answer, element, cleared, printed, ended, refused}
+use Rattle.whole.specs.Step.{State, Answer, element, cleared, printed, ended, refused}
 use Rattle.walk.specs.Steps.{stateOf}
-use Rattle.flat.specs.Flat.{flatElement}
-use Rattle.flat.specs.Steps.{walkOf, flatOf}
+use Rattle.flat.specs.Steps.{flatOf}
 use Rattle.flat.specs.Frames.{frameFlat, answerFrame, stateIn}
 
-frame-flat : (s : List ℕ) (e : LabelElement) (w : WalkState) → frameFlat s (flatElement e w) ≡ frameOf s e
+frame-flat : (s : List ℕ) (e : LabelElement) (st : State LabelPosition)
+    → frameFlat s (flatOf (element e st)) ≡ frameOf s e
 unfolding be32 head drawn bars plain ratioed rowed frameOf
-frame-flat s (kind.Text e) w = refl
-frame-flat s (kind.GraphicBox e) w = refl
-frame-flat s (kind.DiagonalLine e) w = refl
-frame-flat s (kind.GraphicField e) w = refl
-frame-flat s (kind.Barcode128 e) w = refl
-frame-flat s (kind.BarcodeEan13 e) w = refl
-frame-flat s (kind.BarcodeEan8 e) w = refl
-frame-flat s (kind.BarcodeUca e) w = refl
-frame-flat s (kind.Barcode2of5 e) w = refl
-frame-flat s (kind.Barcode39 e) w = refl
-frame-flat s (kind.BarcodePdf417 e) w = refl
-frame-flat s (kind.BarcodeAztec e) w = refl
-frame-flat s (kind.BarcodeDatamatrix e) w = refl
-frame-flat s (kind.BarcodeQr e) w = refl
-frame-flat s (kind.Maxicode e) w = refl
-frame-flat s (kind.BarcodeUcpe e) w = refl
+frame-flat s (kind.Text e) st = refl
+frame-flat s (kind.GraphicBox e) st = refl
+frame-flat s (kind.DiagonalLine e) st = refl
+frame-flat s (kind.GraphicField e) st = refl
+frame-flat s (kind.Barcode128 e) st = refl
+frame-flat s (kind.BarcodeEan13 e) st = refl
+frame-flat s (kind.BarcodeEan8 e) st = refl
+frame-flat s (kind.BarcodeUca e) st = refl
+frame-flat s (kind.Barcode2of5 e) st = refl
+frame-flat s (kind.Barcode39 e) st = refl
+frame-flat s (kind.BarcodePdf417 e) st = refl
+frame-flat s (kind.BarcodeAztec e) st = refl
+frame-flat s (kind.BarcodeDatamatrix e) st = refl
+frame-flat s (kind.BarcodeQr e) st = refl
+frame-flat s (kind.Maxicode e) st = refl
+frame-flat s (kind.BarcodeUcpe e) st = refl
 
 pub flat-frame : (s : List ℕ) (a : Answer LabelPosition LabelElement Unit) → frameFlat s (flatOf a) ≡ answerFrame s a
-flat-frame s (element e st) = frame-flat s e (walkOf st)
+flat-frame s (element e st) = frame-flat s e st
 flat-frame s (cleared st) = refl
 flat-frame s (printed n q st) = refl
 flat-frame s (ended st) = refl
 flat-frame s (refused n p st) = refl
 
+pub flat-kind : (e : LabelElement) (st : State LabelPosition)
+    → flatOf (element e st) .element .kind ≡ flatOf (element e st) .kind
+flat-kind e st = refl
+
 pub flat-next : (a : Answer LabelPosition LabelElement Unit) → stateOf (flatOf a .next) ≡ stateIn a
-flat-next (element (kind.Text e) st) = refl
-flat-next (element (kind.GraphicBox e) st) = refl
-flat-next (element (kind.DiagonalLine e) st) = refl
-flat-next (element (kind.GraphicField e) st) = refl
-flat-next (element (kind.Barcode128 e) st) = refl
-flat-next (element (kind.BarcodeEan13 e) st) = refl
-flat-next (element (kind.BarcodeEan8 e) st) = refl
-flat-next (element (kind.BarcodeUca e) st) = refl
-flat-next (element (kind.Barcode2of5 e) st) = refl
-flat-next (element (kind.Barcode39 e) st) = refl
-flat-next (element (kind.BarcodePdf417 e) st) = refl
-flat-next (element (kind.BarcodeAztec e) st) = refl
-flat-next (element (kind.BarcodeDatamatrix e) st) = refl
-flat-next (element (kind.BarcodeQr e) st) = refl
-flat-next (element (kind.Maxicode e) st) = refl
-flat-next (element (kind.BarcodeUcpe e) st) = refl
+flat-next (element e st) = refl
 flat-next (cleared st) = refl
 flat-next (printed n q st) = refl
 flat-next (ended st) = refl

@@ -1,4 +1,6 @@
--- 01, "Frames": the fields of an answer as named numbers
+-- 01, "Frames": the fields of elements by name
+pub mod Fields
+-- 01, "Frames": an element and an answer as named numbers
 pub mod Flat
 -- 01, "Forms that change": states and answers of steps, flat
 pub mod Steps

@@ -1,6 +1,6 @@
-// The flat answer, and the parts of one that several kinds have.
+// The flat element, the parts of one that several kinds have, and the flat answer that carries it.
 ghost use mathlib.Core.Path.{_≡_};
-ghost use Rattle.flat.specs.Flat.{event, placed, barred};
+ghost use Rattle.flat.specs.Flat.{placed, barred, nothing, event, answered};
 use element_frames::fields::flag;
 use element_frames::fields::rotation;
 use elements::DataSpan;
@@ -8,13 +8,11 @@ use elements::FieldOrientation;
 use elements::LabelPosition;
 use elements::walk_state::WalkState;
 
-// What a step answers. A field that is none of its kind's is 0.
+// What a command draws. A field that is none of its kind's is 0.
 #[repr(C)]
-pub struct Answer {
-    // 1 to 16 an element, by its frame's kind; 0 a print, 17 a clear, 18 the end, 255 a refusal.
+pub struct Element {
+    // 1 to 16, its frame's kind.
     pub kind: u8,
-    // A refusal's.
-    pub number: u8,
     // Quarter turns, 0 to 3.
     pub rotation: u8,
     // Flag: a text is reversed.
@@ -50,62 +48,34 @@ pub struct Answer {
     pub text_width: f64,
     // Wide to narrow.
     pub ratio: f64,
+    // Where the data stands in the input, and how many bytes it has before decoding.
+    pub data_start: usize,
+    pub data_len: usize,
+}
+
+// What a step answers. A field that is none of its kind's is 0; of a print, a clear, the end and a refusal so is every
+// field of the element.
+#[repr(C)]
+pub struct Answer {
+    // The element's; or 0 a print, 17 a clear, 18 the end, 255 a refusal.
+    pub kind: u8,
+    // A refusal's.
+    pub number: u8,
     // A refusal's.
     pub place: usize,
     // A print's: how many elements its label has.
     pub count: usize,
-    // Where the data stands in the input, and how many bytes it has before decoding.
-    pub data_start: usize,
-    pub data_len: usize,
     // The state for the next step; after a refusal the one that was given.
     pub next: WalkState,
+    pub element: Element,
 }
 
-// A print, a clear, the end or a refusal.
-pub fn event(kind: u8, number: u8, place: usize, count: usize, next: WalkState) -> Answer
-    ensures { λ r. ⌜ r ≡ event kind number place count next ⌝ }
+// Kind, position and data, without the fields of the kind.
+pub fn placed(kind: u8, p: LabelPosition, d: DataSpan) -> Element
+    ensures { λ r. ⌜ r ≡ placed kind p d ⌝ }
 {
-    Answer {
+    Element {
         kind,
-        number,
-        rotation: 0,
-        reverse: 0,
-        colour: 0,
-        direction: 0,
-        line: 0,
-        check: 0,
-        truncate: 0,
-        level: 0,
-        x: 0,
-        y: 0,
-        width: 0,
-        height: 0,
-        thickness: 0,
-        row_bytes: 0,
-        security: 0,
-        columns: 0,
-        rows: 0,
-        magnification: 0,
-        size: 0,
-        mode: 0,
-        text_height: 0.0,
-        text_width: 0.0,
-        ratio: 0.0,
-        place,
-        count,
-        data_start: 0,
-        data_len: 0,
-        next,
-    }
-}
-
-// An element, without the fields of its kind.
-pub fn placed(kind: u8, p: LabelPosition, d: DataSpan, next: WalkState) -> Answer
-    ensures { λ r. ⌜ r ≡ placed kind p d next ⌝ }
-{
-    Answer {
-        kind,
-        number: 0,
         rotation: 0,
         reverse: 0,
         colour: 0,
@@ -129,27 +99,57 @@ pub fn placed(kind: u8, p: LabelPosition, d: DataSpan, next: WalkState) -> Answe
         text_height: 0.0,
         text_width: 0.0,
         ratio: 0.0,
-        place: 0,
-        count: 0,
         data_start: d.start,
         data_len: d.len,
-        next,
     }
 }
 
 // A bar code with bars, without its sizes.
-pub fn barred(
-    kind: u8,
-    p: LabelPosition,
-    o: FieldOrientation,
-    line: bool,
-    d: DataSpan,
-    next: WalkState,
-) -> Answer
-    ensures { λ r. ⌜ r ≡ barred kind p o line d next ⌝ }
+pub fn barred(kind: u8, p: LabelPosition, o: FieldOrientation, line: bool, d: DataSpan) -> Element
+    ensures { λ r. ⌜ r ≡ barred kind p o line d ⌝ }
 {
-    let mut a = placed(kind, p, d, next);
+    let mut a = placed(kind, p, d);
     a.rotation = rotation(o);
     a.line = flag(line);
     a
+}
+
+// No element.
+fn nothing() -> Element
+    ensures { λ r. ⌜ r ≡ nothing ⌝ }
+{
+    placed(
+        0,
+        LabelPosition { x: 0, y: 0 },
+        DataSpan { start: 0, len: 0 },
+    )
+}
+
+// A print, a clear, the end or a refusal.
+pub fn event(kind: u8, number: u8, place: usize, count: usize, next: WalkState) -> Answer
+    ensures { λ r. ⌜ r ≡ event kind number place count next ⌝ }
+{
+    let element = nothing();
+    Answer {
+        kind,
+        number,
+        place,
+        count,
+        next,
+        element,
+    }
+}
+
+// An element, as a step answers it.
+pub fn answered(element: Element, next: WalkState) -> Answer
+    ensures { λ r. ⌜ r ≡ answered element next ⌝ }
+{
+    Answer {
+        kind: element.kind,
+        number: 0,
+        place: 0,
+        count: 0,
+        next,
+        element,
+    }
 }

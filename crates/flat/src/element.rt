@@ -1,8 +1,8 @@
-// An element as a flat answer, kind by kind.
+// An element as a flat one, kind by kind.
 ghost use mathlib.Core.Path.{_≡_};
 ghost use Rattle.elements.specs.declared.LabelElement.the-variants as element;
 ghost use Rattle.flat.specs.Flat.{flatElement};
-use crate::answer::Answer;
+use crate::answer::Element;
 use crate::answer::barred;
 use crate::answer::placed;
 use element_frames::fields::colour;
@@ -28,17 +28,16 @@ use elements::GraphicField;
 use elements::LabelElement;
 use elements::MaxicodeWithData;
 use elements::TextField;
-use elements::walk_state::WalkState;
 
 // Kind 01.
-fn text_field(e: TextField, next: WalkState) -> Answer
-    ensures { λ r. ⌜ r ≡ flatElement (element.Text e) next ⌝ }
+fn text_field(e: TextField) -> Element
+    ensures { λ r. ⌜ r ≡ flatElement (element.Text e) ⌝ }
 {
     let position = e.position;
     let font = e.font;
     let turned = font.rotation;
     let data = e.text;
-    let mut a = placed(1, position, data, next);
+    let mut a = placed(1, position, data);
     a.rotation = rotation(turned);
     a.reverse = flag(e.reverse_print);
     a.text_height = font.height;
@@ -47,13 +46,13 @@ fn text_field(e: TextField, next: WalkState) -> Answer
 }
 
 // Kind 02.
-fn graphic_box(e: GraphicBox, next: WalkState) -> Answer
-    ensures { λ r. ⌜ r ≡ flatElement (element.GraphicBox e) next ⌝ }
+fn graphic_box(e: GraphicBox) -> Element
+    ensures { λ r. ⌜ r ≡ flatElement (element.GraphicBox e) ⌝ }
 {
     let position = e.position;
     let by = e.line_color;
     let data = DataSpan { start: 0, len: 0 };
-    let mut a = placed(2, position, data, next);
+    let mut a = placed(2, position, data);
     a.colour = colour(by);
     a.width = e.width;
     a.height = e.height;
@@ -62,12 +61,12 @@ fn graphic_box(e: GraphicBox, next: WalkState) -> Answer
 }
 
 // Kind 03.
-fn diagonal(e: GraphicDiagonalLine, next: WalkState) -> Answer
-    ensures { λ r. ⌜ r ≡ flatElement (element.DiagonalLine e) next ⌝ }
+fn diagonal(e: GraphicDiagonalLine) -> Element
+    ensures { λ r. ⌜ r ≡ flatElement (element.DiagonalLine e) ⌝ }
 {
     let position = e.position;
     let data = DataSpan { start: 0, len: 0 };
-    let mut a = placed(3, position, data, next);
+    let mut a = placed(3, position, data);
     a.direction = flag(e.top_to_bottom);
     a.width = e.width;
     a.height = e.height;
@@ -76,26 +75,26 @@ fn diagonal(e: GraphicDiagonalLine, next: WalkState) -> Answer
 }
 
 // Kind 04.
-fn graphic_field(e: GraphicField, next: WalkState) -> Answer
-    ensures { λ r. ⌜ r ≡ flatElement (element.GraphicField e) next ⌝ }
+fn graphic_field(e: GraphicField) -> Element
+    ensures { λ r. ⌜ r ≡ flatElement (element.GraphicField e) ⌝ }
 {
     let position = e.position;
     let data = e.data;
-    let mut a = placed(4, position, data, next);
+    let mut a = placed(4, position, data);
     a.row_bytes = e.row_bytes;
     a
 }
 
 // Kind 05.
-fn code_128(e: Barcode128WithData, next: WalkState) -> Answer
-    ensures { λ r. ⌜ r ≡ flatElement (element.Barcode128 e) next ⌝ }
+fn code_128(e: Barcode128WithData) -> Element
+    ensures { λ r. ⌜ r ≡ flatElement (element.Barcode128 e) ⌝ }
 {
     let b = e.barcode;
     let turned = b.orientation;
     let by = b.mode;
     let position = e.position;
     let data = e.data;
-    let mut a = barred(5, position, turned, b.line, data, next);
+    let mut a = barred(5, position, turned, b.line, data);
     a.mode = mode(by) as i32;
     a.width = e.width;
     a.height = b.height;
@@ -103,56 +102,56 @@ fn code_128(e: Barcode128WithData, next: WalkState) -> Answer
 }
 
 // Kind 06.
-fn ean13(e: BarcodeEan13WithData, next: WalkState) -> Answer
-    ensures { λ r. ⌜ r ≡ flatElement (element.BarcodeEan13 e) next ⌝ }
+fn ean13(e: BarcodeEan13WithData) -> Element
+    ensures { λ r. ⌜ r ≡ flatElement (element.BarcodeEan13 e) ⌝ }
 {
     let b = e.barcode;
     let turned = b.orientation;
     let position = e.position;
     let data = e.data;
-    let mut a = barred(6, position, turned, b.line, data, next);
+    let mut a = barred(6, position, turned, b.line, data);
     a.width = e.width;
     a.height = b.height;
     a
 }
 
 // Kind 07.
-fn ean8(e: BarcodeEan8WithData, next: WalkState) -> Answer
-    ensures { λ r. ⌜ r ≡ flatElement (element.BarcodeEan8 e) next ⌝ }
+fn ean8(e: BarcodeEan8WithData) -> Element
+    ensures { λ r. ⌜ r ≡ flatElement (element.BarcodeEan8 e) ⌝ }
 {
     let b = e.barcode;
     let turned = b.orientation;
     let position = e.position;
     let data = e.data;
-    let mut a = barred(7, position, turned, b.line, data, next);
+    let mut a = barred(7, position, turned, b.line, data);
     a.width = e.width;
     a.height = b.height;
     a
 }
 
 // Kind 08.
-fn upca(e: BarcodeUcaWithData, next: WalkState) -> Answer
-    ensures { λ r. ⌜ r ≡ flatElement (element.BarcodeUca e) next ⌝ }
+fn upca(e: BarcodeUcaWithData) -> Element
+    ensures { λ r. ⌜ r ≡ flatElement (element.BarcodeUca e) ⌝ }
 {
     let b = e.barcode;
     let turned = b.orientation;
     let position = e.position;
     let data = e.data;
-    let mut a = barred(8, position, turned, b.line, data, next);
+    let mut a = barred(8, position, turned, b.line, data);
     a.width = e.width;
     a.height = b.height;
     a
 }
 
 // Kind 09.
-fn interleaved(e: Barcode2of5WithData, next: WalkState) -> Answer
-    ensures { λ r. ⌜ r ≡ flatElement (element.Barcode2of5 e) next ⌝ }
+fn interleaved(e: Barcode2of5WithData) -> Element
+    ensures { λ r. ⌜ r ≡ flatElement (element.Barcode2of5 e) ⌝ }
 {
     let b = e.barcode;
     let turned = b.orientation;
     let position = e.position;
     let data = e.data;
-    let mut a = barred(9, position, turned, b.line, data, next);
+    let mut a = barred(9, position, turned, b.line, data);
     a.check = flag(b.check_digit);
     a.width = e.width;
     a.height = b.height;
@@ -161,14 +160,14 @@ fn interleaved(e: Barcode2of5WithData, next: WalkState) -> Answer
 }
 
 // Kind 0a.
-fn code_39(e: Barcode39WithData, next: WalkState) -> Answer
-    ensures { λ r. ⌜ r ≡ flatElement (element.Barcode39 e) next ⌝ }
+fn code_39(e: Barcode39WithData) -> Element
+    ensures { λ r. ⌜ r ≡ flatElement (element.Barcode39 e) ⌝ }
 {
     let b = e.barcode;
     let turned = b.orientation;
     let position = e.position;
     let data = e.data;
-    let mut a = barred(10, position, turned, b.line, data, next);
+    let mut a = barred(10, position, turned, b.line, data);
     a.check = flag(b.check_digit);
     a.width = e.width;
     a.height = b.height;
@@ -177,14 +176,14 @@ fn code_39(e: Barcode39WithData, next: WalkState) -> Answer
 }
 
 // Kind 0b.
-fn pdf417(e: BarcodePdf417WithData, next: WalkState) -> Answer
-    ensures { λ r. ⌜ r ≡ flatElement (element.BarcodePdf417 e) next ⌝ }
+fn pdf417(e: BarcodePdf417WithData) -> Element
+    ensures { λ r. ⌜ r ≡ flatElement (element.BarcodePdf417 e) ⌝ }
 {
     let b = e.barcode;
     let turned = b.orientation;
     let position = e.position;
     let data = e.data;
-    let mut a = placed(11, position, data, next);
+    let mut a = placed(11, position, data);
     a.rotation = rotation(turned);
     a.truncate = flag(b.truncate);
     a.height = b.row_height;
@@ -196,26 +195,26 @@ fn pdf417(e: BarcodePdf417WithData, next: WalkState) -> Answer
 }
 
 // Kind 0c.
-fn aztec(e: BarcodeAztecWithData, next: WalkState) -> Answer
-    ensures { λ r. ⌜ r ≡ flatElement (element.BarcodeAztec e) next ⌝ }
+fn aztec(e: BarcodeAztecWithData) -> Element
+    ensures { λ r. ⌜ r ≡ flatElement (element.BarcodeAztec e) ⌝ }
 {
     let b = e.barcode;
     let position = e.position;
     let data = e.data;
-    let mut a = placed(12, position, data, next);
+    let mut a = placed(12, position, data);
     a.magnification = b.magnification;
     a.size = b.size;
     a
 }
 
 // Kind 0d.
-fn datamatrix(e: BarcodeDatamatrixWithData, next: WalkState) -> Answer
-    ensures { λ r. ⌜ r ≡ flatElement (element.BarcodeDatamatrix e) next ⌝ }
+fn datamatrix(e: BarcodeDatamatrixWithData) -> Element
+    ensures { λ r. ⌜ r ≡ flatElement (element.BarcodeDatamatrix e) ⌝ }
 {
     let matrix = e.barcode;
     let position = e.position;
     let data = e.data;
-    let mut a = placed(13, position, data, next);
+    let mut a = placed(13, position, data);
     a.height = matrix.height;
     a.columns = matrix.columns;
     a.rows = matrix.rows;
@@ -223,65 +222,65 @@ fn datamatrix(e: BarcodeDatamatrixWithData, next: WalkState) -> Answer
 }
 
 // Kind 0e.
-fn qr(e: BarcodeQrWithData, next: WalkState) -> Answer
-    ensures { λ r. ⌜ r ≡ flatElement (element.BarcodeQr e) next ⌝ }
+fn qr(e: BarcodeQrWithData) -> Element
+    ensures { λ r. ⌜ r ≡ flatElement (element.BarcodeQr e) ⌝ }
 {
     let b = e.barcode;
     let by = e.error_correction;
     let position = e.position;
     let data = e.data;
-    let mut a = placed(14, position, data, next);
+    let mut a = placed(14, position, data);
     a.level = level(by);
     a.magnification = b.magnification;
     a
 }
 
 // Kind 0f.
-fn maxicode(e: MaxicodeWithData, next: WalkState) -> Answer
-    ensures { λ r. ⌜ r ≡ flatElement (element.Maxicode e) next ⌝ }
+fn maxicode(e: MaxicodeWithData) -> Element
+    ensures { λ r. ⌜ r ≡ flatElement (element.Maxicode e) ⌝ }
 {
     let code = e.code;
     let position = e.position;
     let data = e.data;
-    let mut a = placed(15, position, data, next);
+    let mut a = placed(15, position, data);
     a.mode = code.mode;
     a
 }
 
 // Kind 10.
-fn upce(e: BarcodeUcpeWithData, next: WalkState) -> Answer
-    ensures { λ r. ⌜ r ≡ flatElement (element.BarcodeUcpe e) next ⌝ }
+fn upce(e: BarcodeUcpeWithData) -> Element
+    ensures { λ r. ⌜ r ≡ flatElement (element.BarcodeUcpe e) ⌝ }
 {
     let b = e.barcode;
     let turned = b.orientation;
     let position = e.position;
     let data = e.data;
-    let mut a = barred(16, position, turned, b.line, data, next);
+    let mut a = barred(16, position, turned, b.line, data);
     a.width = e.width;
     a.height = b.height;
     a
 }
 
-// The element e, and the state for the next step.
-pub fn flat_element(e: LabelElement, next: WalkState) -> Answer
-    ensures { λ r. ⌜ r ≡ flatElement e next ⌝ }
+// An element of any kind.
+pub fn flat_element(e: LabelElement) -> Element
+    ensures { λ r. ⌜ r ≡ flatElement e ⌝ }
 {
     match e {
-        LabelElement::Text(x) => text_field(x, next),
-        LabelElement::GraphicBox(x) => graphic_box(x, next),
-        LabelElement::DiagonalLine(x) => diagonal(x, next),
-        LabelElement::GraphicField(x) => graphic_field(x, next),
-        LabelElement::Barcode128(x) => code_128(x, next),
-        LabelElement::BarcodeEan13(x) => ean13(x, next),
-        LabelElement::BarcodeEan8(x) => ean8(x, next),
-        LabelElement::BarcodeUca(x) => upca(x, next),
-        LabelElement::Barcode2of5(x) => interleaved(x, next),
-        LabelElement::Barcode39(x) => code_39(x, next),
-        LabelElement::BarcodePdf417(x) => pdf417(x, next),
-        LabelElement::BarcodeAztec(x) => aztec(x, next),
-        LabelElement::BarcodeDatamatrix(x) => datamatrix(x, next),
-        LabelElement::BarcodeQr(x) => qr(x, next),
-        LabelElement::Maxicode(x) => maxicode(x, next),
-        LabelElement::BarcodeUcpe(x) => upce(x, next),
+        LabelElement::Text(x) => text_field(x),
+        LabelElement::GraphicBox(x) => graphic_box(x),
+        LabelElement::DiagonalLine(x) => diagonal(x),
+        LabelElement::GraphicField(x) => graphic_field(x),
+        LabelElement::Barcode128(x) => code_128(x),
+        LabelElement::BarcodeEan13(x) => ean13(x),
+        LabelElement::BarcodeEan8(x) => ean8(x),
+        LabelElement::BarcodeUca(x) => upca(x),
+        LabelElement::Barcode2of5(x) => interleaved(x),
+        LabelElement::Barcode39(x) => code_39(x),
+        LabelElement::BarcodePdf417(x) => pdf417(x),
+        LabelElement::BarcodeAztec(x) => aztec(x),
+        LabelElement::BarcodeDatamatrix(x) => datamatrix(x),
+        LabelElement::BarcodeQr(x) => qr(x),
+        LabelElement::Maxicode(x) => maxicode(x),
+        LabelElement::BarcodeUcpe(x) => upce(x),
     }
 }

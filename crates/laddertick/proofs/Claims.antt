@@ -52,7 +52,7 @@ use Rattle.grammar.proofs.ReadingLaws.{ill-formed, well-formed-range}
 use Rattle.units.proofs.UnitLaws.{inside}
 use Rattle.walk.specs.declared.answer.Step.{Step}
 use Rattle.walk.specs.Steps.{answerOf}
-use Rattle.flat.proofs.FrameLaws.{flat-frame, flat-next}
+use Rattle.flat.proofs.FrameLaws.{flat-frame, flat-kind, flat-next}
 use Rattle.frames.specs.Listing.{FramedLabel, listingOf, outcomeOf, listingDue, dueOf}
 use Rattle.format.specs.Normalise as format
 use Rattle.frames.proofs.Room.{length-listing-le, never-short}
@@ -249,7 +249,7 @@ claims library = record {
   demand3 = demand-of library;
   block-bytes = block-bytes;
   line-blocks = line-blocks;
-  flat = record { frame = flat-frame; next = flat-next; clear = λ st. refl; end = λ st. refl };
+  flat = record { frame = flat-frame; next = flat-next; kind = flat-kind; clear = λ st. refl; end = λ st. refl };
   room = length-listing-le;
   normalised-room = length-normalised-le;
   never-15 = never-short;

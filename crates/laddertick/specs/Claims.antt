@@ -28,7 +28,7 @@ use Rattle.spelling.specs.Command.{commandOf}
 use Rattle.commands.specs.Line.{readLine}
 use Rattle.whole.specs.Language.{bad, yield, outside}
 use Rattle.whole.specs.Division.{Division}
-use Rattle.whole.specs.Step.{State, Answer, cleared, ended, refused, longest}
+use Rattle.whole.specs.Step.{State, Answer, element, cleared, ended, refused, longest}
 use Rattle.whole.specs.Reach.{Final, accepted, refusal}
 use Rattle.whole.specs.Trace.{listed}
 use Rattle.whole.specs.Normal.{each}
@@ -162,6 +162,9 @@ pub record Flat : Type 0 where
   -- an answer of `laddertick_step` rebuilt to 01's frame from its fields alone: an element's, a print's, a refusal's; and the state for the next step
   pub frame : (s : List ℕ) (a : Answer LabelPosition LabelElement Unit) → frameFlat s (flatOf a) ≡ answerFrame s a
   pub next : (a : Answer LabelPosition LabelElement Unit) → stateOf (flatOf a .next) ≡ stateIn a
+  -- an element's kind stands in the answer and in the element
+  pub kind : (e : LabelElement) (st : State LabelPosition)
+      → flatOf (element e st) .element .kind ≡ flatOf (element e st) .kind
   -- what has no frame is told by its kind
   pub clear : (st : State LabelPosition) → flatOf (cleared st) .kind ≡ 17
   pub end : (st : State LabelPosition) → flatOf (ended st) .kind ≡ 18

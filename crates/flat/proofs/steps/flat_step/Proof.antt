@@ -9,6 +9,9 @@ enum-known-a c = search needs
 flat-element-requires : tie.Need-flat-element-requires
 flat-element-requires c κs = search needs
 
+answered-requires : tie.Need-answered-requires
+answered-requires c κs = search needs
+
 enum-known-a-2 : tie.Need-enum-known-a-2
 enum-known-a-2 c = search needs
 
@@ -37,7 +40,7 @@ event-requires-4 : tie.Need-event-requires-4
 event-requires-4 c κs = search needs
 
 returns : tie.Need-returns
-returns c = rw (c .before .before .a .given .1) (c .flat-element .ensures)
+returns c = rw (c .before .before .before .a .given .1, ← c .before .flat-element .ensures) (c .answered .ensures)
 
 returns-2 : tie.Need-returns-2
 returns-2 c = rw (c .before .before .a2 .given .1) (c .event .ensures)
@@ -57,6 +60,7 @@ flat-step-spec =
     (tie.spec
     enum-known-a
     flat-element-requires
+    answered-requires
     enum-known-a-2
     event-requires
     enum-known-a-3
