@@ -6,6 +6,9 @@
 mod inputs;
 mod library;
 mod memory;
+#[allow(dead_code)]
+#[path = "../../bindings/rust/src/raw.rs"]
+mod raw;
 
 use inputs::{Kind, KINDS};
 use memory::Memory;

@@ -1,22 +1,10 @@
 //! One input put to the library, with room to spare for the answer and with none, and held against what it should answer.
 
+use crate::raw::{self, Written};
 use oracle::Answer;
 
-/// What a function of the library gives back. Number 0: the place is the length written. Else 01's number and place.
-#[repr(C)]
-#[derive(Clone, Copy, Debug, PartialEq, Eq)]
-struct Written {
-    number: u32,
-    place: usize,
-}
-
-/// A slice goes as pointer and length.
-type Function = unsafe extern "C" fn(*const u8, usize, *mut u8, usize) -> Written;
-
-extern "C" {
-    fn laddertick_list(input: *const u8, input_len: usize, out: *mut u8, out_len: usize) -> Written;
-    fn laddertick_normalise(input: *const u8, input_len: usize, out: *mut u8, out_len: usize) -> Written;
-}
+/// A function that writes.
+type Function = fn(&[u8], &mut [u8]) -> Written;
 
 /// Bytes on either side of what is lent.
 const MARGIN: usize = 32;
@@ -41,8 +29,7 @@ impl Lent {
         self.input[MARGIN..][..input.len()].copy_from_slice(input);
         self.out.clear();
         self.out.resize(room + 2 * MARGIN, self.mark());
-        let (given, out) = (&self.input[MARGIN..][..input.len()], &mut self.out[MARGIN..][..room]);
-        unsafe { function(given.as_ptr(), given.len(), out.as_mut_ptr(), out.len()) }
+        function(&self.input[MARGIN..][..input.len()], &mut self.out[MARGIN..][..room])
     }
 
     fn mark(&self) -> u8 {
@@ -66,21 +53,21 @@ impl Lent {
 pub fn compare(lent: &mut Lent, input: &[u8], expected: &Answer) -> Result<(), String> {
     listed(lent, input, expected)?;
     if input.len() > oracle::LIMIT {
-        return refused(lent, laddertick_normalise, input, 14, 0);
+        return refused(lent, raw::normalise, input, 14, 0);
     }
     let text = oracle::normalised(input);
-    written(lent, laddertick_normalise, input, &text).map_err(|wrong| format!("normalising, {wrong}"))?;
+    written(lent, raw::normalise, input, &text).map_err(|wrong| format!("normalising, {wrong}"))?;
     if text.len() <= oracle::LIMIT && matches!(expected, Answer::Labels(_)) {
         listed(lent, &text, expected).map_err(|wrong| format!("the normalised text, {wrong}"))?;
-        written(lent, laddertick_normalise, &text, &text).map_err(|wrong| format!("normalising again, {wrong}"))?;
+        written(lent, raw::normalise, &text, &text).map_err(|wrong| format!("normalising again, {wrong}"))?;
     }
     Ok(())
 }
 
 fn listed(lent: &mut Lent, input: &[u8], expected: &Answer) -> Result<(), String> {
     match expected {
-        Answer::Labels(text) => written(lent, laddertick_list, input, text.as_bytes()),
-        Answer::Refused(number, place) => refused(lent, laddertick_list, input, *number, *place),
+        Answer::Labels(text) => written(lent, raw::list, input, text.as_bytes()),
+        Answer::Refused(number, place) => refused(lent, raw::list, input, *number, *place),
         Answer::Panic => unreachable!("01 answers every input"),
     }
 }

@@ -2,6 +2,9 @@
 //! come first, all of them, then a few inputs around the length limit, then as many millions of made ones as asked for.
 
 mod compare;
+#[allow(dead_code)]
+#[path = "../../bindings/rust/src/raw.rs"]
+mod raw;
 mod short;
 
 use compare::{compare, Lent};

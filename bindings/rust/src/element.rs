@@ -1,4 +1,5 @@
 use crate::raw;
+use crate::write::write;
 
 /// What a command draws.
 #[derive(Clone, Debug, PartialEq)]
@@ -19,7 +20,7 @@ impl Element<'_> {
         if self.data.is_empty() || matches!(self.kind, Kind::Graphic { .. }) {
             return None;
         }
-        let bytes = raw::write(self.data.len(), |out| raw::data(self.data, 0, self.data.len(), out));
+        let bytes = write(self.data.len(), |out| raw::data(self.data, 0, self.data.len(), out));
         Some(String::from_utf8(bytes.expect("part of a file is no longer than the file")).expect("decoded data is UTF-8"))
     }
 }

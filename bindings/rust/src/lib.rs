@@ -17,10 +17,12 @@ mod element;
 mod raw;
 mod refused;
 mod walk;
+mod write;
 
 pub use element::{BarMode, Bars, Element, Kind, QrLevel};
 pub use refused::Refused;
 pub use walk::{labels, steps, Label, Labels, Step, Steps};
+use write::write;
 
 /// The longest input; a longer one is refused 14.
 pub const LONGEST: usize = 16_777_216;
@@ -28,11 +30,11 @@ pub const LONGEST: usize = 16_777_216;
 /// The file with blanks and empty lines taken away and graphics copied whole. Only an input over [`LONGEST`] is refused.
 pub fn normalise(input: &[u8]) -> Result<Vec<u8>, Refused> {
     // n + n / 6 + 1 bytes are always enough, so there is nothing to measure.
-    raw::write(input.len() + input.len() / 6 + 1, |out| raw::normalise(input, out))
+    write(input.len() + input.len() / 6 + 1, |out| raw::normalise(input, out))
 }
 
 /// The labels of a file as frames, one a line in hexadecimal; or the refusal of the earliest refused line.
 pub fn list(input: &[u8]) -> Result<String, Refused> {
-    let bytes = raw::write(0, |out| raw::list(input, out))?;
+    let bytes = write(0, |out| raw::list(input, out))?;
     Ok(String::from_utf8(bytes).expect("a listing is hexadecimal digits and LF"))
 }

@@ -1,6 +1,5 @@
-//! The functions of the static library, as include/laddertick.h has them, and safe calls of them.
-
-use crate::Refused;
+//! The functions of the static library, as include/laddertick.h has them, and safe calls of them. It needs no other
+//! file: tools/bench and tools/diff take it in as it stands, so that the structs are written down once for Rust.
 
 /// Where a walk stands.
 #[repr(C)]
@@ -58,10 +57,10 @@ pub struct Answer {
 
 /// Number 0: `place` bytes are written. Else a refusal.
 #[repr(C)]
-#[derive(Clone, Copy)]
+#[derive(Clone, Copy, Debug, PartialEq, Eq)]
 pub struct Written {
-    number: u32,
-    place: usize,
+    pub number: u32,
+    pub place: usize,
 }
 
 extern "C" {
@@ -93,19 +92,4 @@ pub fn list(input: &[u8], out: &mut [u8]) -> Written {
 
 pub fn normalise(input: &[u8], out: &mut [u8]) -> Written {
     unsafe { laddertick_normalise(input.as_ptr(), input.len(), out.as_mut_ptr(), out.len()) }
-}
-
-/// What `of` writes: into room for `guess` bytes, or into as many as it then says that it needs.
-pub fn write(guess: usize, of: impl Fn(&mut [u8]) -> Written) -> Result<Vec<u8>, Refused> {
-    let mut out = vec![0; guess];
-    let mut written = of(&mut out);
-    if written.number == Refused::OUTPUT_TOO_SHORT as u32 {
-        out.resize(written.place, 0);
-        written = of(&mut out);
-    }
-    if written.number != 0 {
-        return Err(Refused { number: written.number as u8, place: written.place });
-    }
-    out.truncate(written.place);
-    Ok(out)
 }
