@@ -1,6 +1,7 @@
 //! One input put to the library, with room to spare for the answer and with none, and held against what it should answer.
 
 use crate::raw::{self, Written};
+use crate::steps;
 use oracle::Answer;
 
 /// A function that writes.
@@ -22,14 +23,20 @@ pub struct Lent {
 
 impl Lent {
     fn call(&mut self, function: Function, input: &[u8], room: usize) -> Written {
+        self.place(input);
+        self.out.clear();
+        self.out.resize(room + 2 * MARGIN, self.mark());
+        function(&self.input[MARGIN..][..input.len()], &mut self.out[MARGIN..][..room])
+    }
+
+    /// The input where it is lent, and other bytes around it than at the last call.
+    fn place(&mut self, input: &[u8]) -> &[u8] {
         self.calls += 1;
         let around = AROUND[self.calls % AROUND.len()];
         self.input.clear();
         self.input.resize(input.len() + 2 * MARGIN, around);
         self.input[MARGIN..][..input.len()].copy_from_slice(input);
-        self.out.clear();
-        self.out.resize(room + 2 * MARGIN, self.mark());
-        function(&self.input[MARGIN..][..input.len()], &mut self.out[MARGIN..][..room])
+        &self.input[MARGIN..][..input.len()]
     }
 
     fn mark(&self) -> u8 {
@@ -48,10 +55,11 @@ impl Lent {
     }
 }
 
-/// Holds the library's answers against the expected ones, the listing's and the normalised text's. The normalised text of an
+/// Holds the library's answers against the expected ones: the listing's, the walk's and the normalised text's. The normalised text of an
 /// accepted input is listed alike, and normalising it again changes nothing. An error says in words what is wrong.
 pub fn compare(lent: &mut Lent, input: &[u8], expected: &Answer) -> Result<(), String> {
     listed(lent, input, expected)?;
+    steps::walked(lent.place(input), expected).map_err(|wrong| format!("walking, {wrong}"))?;
     if input.len() > oracle::LIMIT {
         return refused(lent, raw::normalise, input, 14, 0);
     }

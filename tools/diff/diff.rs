@@ -2,10 +2,10 @@
 //! come first, all of them, then a few inputs around the length limit, then as many millions of made ones as asked for.
 
 mod compare;
-#[allow(dead_code)]
 #[path = "../../bindings/rust/src/raw.rs"]
 mod raw;
 mod short;
+mod steps;
 
 use compare::{compare, Lent};
 use inputs::Maker;

@@ -3,7 +3,7 @@
 
 /// Where a walk stands.
 #[repr(C)]
-#[derive(Clone, Copy, Debug, PartialEq, Eq)]
+#[derive(Clone, Copy, Debug, Default, PartialEq, Eq)]
 pub struct Walk {
     pub x: i32,
     pub y: i32,
@@ -13,7 +13,7 @@ pub struct Walk {
 
 /// What a command draws; a field that its kind does not name is 0.
 #[repr(C)]
-#[derive(Clone, Copy, Debug, PartialEq)]
+#[derive(Clone, Copy, Debug, Default, PartialEq)]
 pub struct Element {
     pub kind: u8,
     pub rotation: u8,
@@ -45,7 +45,7 @@ pub struct Element {
 
 /// What a step answers; a field that its kind does not name is 0.
 #[repr(C)]
-#[derive(Clone, Copy, Debug, PartialEq)]
+#[derive(Clone, Copy, Debug, Default, PartialEq)]
 pub struct Answer {
     pub kind: u8,
     pub number: u8,
