@@ -1,3 +1,2 @@
 pub mod BarcodeLaws
-pub mod RatioLaws
 mod Cases

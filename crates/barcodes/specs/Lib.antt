@@ -2,3 +2,5 @@
 pub mod Ratio
 -- 01, "Grammar": `B` and its fifteen types
 pub mod Barcode
+-- inner: how the reader tells a type
+pub mod Letters

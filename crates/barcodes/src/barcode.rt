@@ -3,7 +3,8 @@ ghost use mathlib.Core.Path.{_≡_};
 ghost use Prim.Native.Nat.{_≤_};
 ghost use lib.ListN.{length, take};
 ghost use Rattle.text.specs.Blank.{trim};
-ghost use Rattle.barcodes.specs.Barcode.{oneLetter, code128Letter, twoLetters, threeLetters, symbologyOf, isListed, code128, interleaved, code39, ean13, ean8, upcA, upcE, barcodeElement, barcodeAt, barcodeReading};
+ghost use Rattle.barcodes.specs.Letters.{oneLetter, code128Letter, twoLetters, threeLetters};
+ghost use Rattle.barcodes.specs.Barcode.{symbologyOf, isListed, code128, interleaved, code39, ean13, ean8, upcA, upcE, barcodeElement, barcodeAt, barcodeReading};
 use crate::ratio::bar_ratio;
 use bytes::scan::find;
 use elements::Barcode2of5;
@@ -63,7 +64,7 @@ pub fn one_letter(a: u8) -> Symbology
     }
 }
 
-// Of two, the first of which is 1: `1A`, `1B`, `1C`, `1E`.
+// Types of two characters, the first of which is 1: `1A`, `1B`, `1C`, `1E`.
 pub fn code_128_letter(b: u8) -> Symbology
     ensures { λ r. ⌜ r ≡ code128Letter b ⌝ }
 {
@@ -76,7 +77,7 @@ pub fn code_128_letter(b: u8) -> Symbology
     Symbology::Unlisted
 }
 
-// Of two: those and `2C`, `2D`, `3C`.
+// Types of two characters: `1A`, `1B`, `1C`, `1E`, `2C`, `2D`, `3C`.
 pub fn two_letters(a: u8, b: u8) -> Symbology
     ensures { λ r. ⌜ r ≡ twoLetters a b ⌝ }
 {
@@ -92,7 +93,7 @@ pub fn two_letters(a: u8, b: u8) -> Symbology
     Symbology::Unlisted
 }
 
-// Of three: `E30`, `E80`, `UA0`, `UE0`.
+// Types of three characters: `E30`, `E80`, `UA0`, `UE0`.
 pub fn three_letters(a: u8, b: u8, c: u8) -> Symbology
     ensures { λ r. ⌜ r ≡ threeLetters a b c ⌝ }
 {

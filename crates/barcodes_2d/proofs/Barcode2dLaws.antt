@@ -2,7 +2,7 @@
 -- Assumes nothing.
 use mathlib.Core.Path.{_≡_, refl, sym}
 use mathlib.Core.Bool.{Bool, true, cond, not, _&&_, _||_}
-use mathlib.Core.List.{List, [], _∷_}
+use mathlib.Core.List.{List}
 use Prim.Native.Nat.{ℕ, suc, _*_, _<_, _≤_}
 use native.Mathlib.Omega.{arith}
 use lib.Dec.{eqb, leb, ltb, leb·suc-suc}
@@ -10,13 +10,16 @@ use lib.IntN.{ℤ, pos, negsuc, _*ℤ_}
 use lib.Signed.{mag, ltZ}
 use lib.ListN.{length, getD}
 use borrow.Author.Tests.{ltb-true, ltb-false, lt-ltb, le-leb, lt-leb, eq-eqb, ne-eqb, eqb-false}
+use Rattle.text.specs.Ascii.{letter}
 use Rattle.text.proofs.BoolLaws.{test}
+use Rattle.parameters.proofs.ParamsLaws.{same-one, same-other}
 use Rattle.numbers.proofs.IntLaws.{mag-neg-pos}
 use Rattle.numbers.specs.Int.{eqZ, minZ}
 use Rattle.numbers.specs.Number.{numberSpelled}
 use Rattle.numbers.specs.declared.number.Number.{Number}
 use Rattle.numbers.specs.declared.number.Number.the-variants as number
-use Rattle.barcodes_2d.specs.Barcode2d.{letterOf, symbologyOf, between, aztecSize, isMode, pdf417ModuleWidth}
+use Rattle.barcodes_2d.specs.Letters.{letterOf}
+use Rattle.barcodes_2d.specs.Barcode2d.{symbologyOf, between, aztecSize, isMode, pdf417ModuleWidth}
 use Rattle.barcodes_2d.specs.Options.{optionsOf, lastOf, clamped, clampedOr, lastClamped}
 use Rattle.barcodes_2d.specs.declared.barcode_2d.Symbology2d.the-variants.{Unlisted}
 use Rattle.barcodes_2d.specs.declared.options.Wanted.the-variants as wanted
@@ -24,14 +27,12 @@ use Rattle.barcodes_2d.specs.declared.options.Wanted.the-variants as wan
 -- a type is one letter
 
 pub symbology-one : (t : List ℕ) → length t ≡ 1 → symbologyOf t ≡ letterOf (getD t 0 0)
-symbology-one [] h = absurd (omega arith)
-symbology-one (a ∷ []) h = refl
-symbology-one (a ∷ b ∷ t) h = absurd (omega arith)
+unfolding symbologyOf letterOf
+symbology-one t h = simp (same-one t 65 h, same-one t 68 h, same-one t 77 h, same-one t 80 h, same-one t 81 h)
 
 pub symbology-other : (t : List ℕ) → (length t ≡ 1 → ⊥) → Unlisted ≡ symbologyOf t
-symbology-other [] h = refl
-symbology-other (a ∷ []) h = absurd (h refl)
-symbology-other (a ∷ b ∷ t) h = refl
+unfolding symbologyOf
+symbology-other t h = rw (← same-other t 65 h, ← same-other t 68 h, ← same-other t 77 h, ← same-other t 80 h, ← same-other t 81 h)
 
 -- the size of an Aztec code, by tests of order alone
 
@@ -83,7 +84,7 @@ clamped-or-le d lo hi number.Other h = h
 
 pub width-le : (s : List ℕ) → mag (pdf417ModuleWidth s) ≤ 9
 unfolding pdf417ModuleWidth lastClamped
-width-le s = clamped-or-le 6 2 9 (numberSpelled (lastOf wanted.Number 120 [] (optionsOf s))) (omega arith)
+width-le s = clamped-or-le 6 2 9 (numberSpelled (lastOf wanted.Number (letter "x") (optionsOf s))) (omega arith)
 
 pub four-fits : (z : ℤ) → mag z ≤ 9 → mag (pos 4 *ℤ z) < 2147483648
 four-fits (pos n) h = omega arith

@@ -21,12 +21,12 @@ cut : autoMode (six ++ (0x38 ∷ 0x5b ∷ 0x29 ∷ 0x3e ∷ 0x1e ∷ 0x30 ∷ 0x
 unfolding headerAt headerPlace postal autoMode
 cut = refl
 
--- it stands at 6: nothing from 6 up to it
+-- the header stands at 6: nothing from 6 up to it
 at-six : autoMode (six ++ header) ≡ pos 3
 unfolding headerAt headerPlace postal autoMode
 at-six = refl
 
--- it stands at 5
+-- the header stands at 5
 at-five : autoMode (0x31 ∷ 0x32 ∷ 0x33 ∷ 0x34 ∷ 0x35 ∷ header) ≡ pos 4
 unfolding headerAt headerPlace postal autoMode
 at-five = refl

@@ -11,7 +11,8 @@ use lib.Seq.{take-suc, drop-cons, drop-drop}
 use Rattle.text.proofs.DropSteps.{rest}
 use Rattle.text.specs.Blank.{front}
 use Rattle.text.specs.Class.{isLetter}
-use Rattle.barcodes_2d.specs.Options.{valueOf, Leading, OptionLen, afterOption, optionsOf, startsWith, lastOf}
+use Rattle.barcodes_2d.specs.Options.{Setting, optionsOf, valuesOf, lastOr, lastOf}
+use Rattle.barcodes_2d.specs.OptionSteps.{valueOf, Leading, OptionLen, afterOption, startsWith}
 use Rattle.barcodes_2d.specs.declared.options.Wanted.{Wanted}
 
 -- one turn of a loop over the front of s, at place i
@@ -53,19 +54,27 @@ module _ (s : List ℕ) (i r : ℕ) (h : i ≤ length s) where
       let k : OptionLen (drop i s) r = rw (rest s i) at l in
       (sym (drop-drop r i s) ∙ k .left, omega (arith, k .fits, length-drop i s), λ p. k .some (rw length-drop (omega arith)))
 
+-- the last value of p that counts, v where none does; v is that of the parameters before
+abbrev pub lastFrom : Wanted → ℕ → List ℕ → List Setting → List ℕ
+lastFrom w p v os = lastOr v (valuesOf w p os)
+
+last-cons : (b : Bool) (x v : List ℕ) (vs : List (List ℕ)) → lastOr v (cond b (x ∷ vs) vs) ≡ lastOr (cond b x v) vs
+last-cons true x v vs = refl
+last-cons false x v vs = refl
+
 -- the parameter at the front, then those behind it
-step-by : (x y : ℕ) (s : List ℕ) (a b : Bool) → isLetter x ≡ a → isLetter y ≡ b → (w : Wanted) (p : ℕ) (v : List ℕ) → lastOf w p v (optionsOf (x ∷ y ∷ s)) ≡ lastOf w p (cond (startsWith w p (x ∷ y ∷ s)) (valueOf (y ∷ s)) v) (optionsOf (afterOption (x ∷ y ∷ s)))
+step-by : (x y : ℕ) (s : List ℕ) (a b : Bool) → isLetter x ≡ a → isLetter y ≡ b → (w : Wanted) (p : ℕ) (v : List ℕ) → lastFrom w p v (optionsOf (x ∷ y ∷ s)) ≡ lastFrom w p (cond (startsWith w p (x ∷ y ∷ s)) (valueOf (y ∷ s)) v) (optionsOf (afterOption (x ∷ y ∷ s)))
 unfolding optionsOf
-step-by x y s true true d e w p v = simp (d, e)
-step-by x y s true false d e w p v = simp (d, e)
+step-by x y s true true d e w p v = simp (d, e, last-cons)
+step-by x y s true false d e w p v = simp (d, e, last-cons)
 step-by x y s false b d e w p v = simp d
 
-step-one : (x : ℕ) (a : Bool) → isLetter x ≡ a → (w : Wanted) (p : ℕ) (v : List ℕ) → lastOf w p v (optionsOf (x ∷ [])) ≡ cond (startsWith w p (x ∷ [])) [] v
+step-one : (x : ℕ) (a : Bool) → isLetter x ≡ a → (w : Wanted) (p : ℕ) (v : List ℕ) → lastFrom w p v (optionsOf (x ∷ [])) ≡ cond (startsWith w p (x ∷ [])) [] v
 unfolding optionsOf
-step-one x true d w p v = simp d
+step-one x true d w p v = simp (d, last-cons)
 step-one x false d w p v = simp d
 
-last-step : (w : Wanted) (p : ℕ) (v s : List ℕ) → 0 < length s → lastOf w p v (optionsOf s) ≡ lastOf w p (cond (startsWith w p s) (valueOf (drop 1 s)) v) (optionsOf (afterOption s))
+last-step : (w : Wanted) (p : ℕ) (v s : List ℕ) → 0 < length s → lastFrom w p v (optionsOf s) ≡ lastFrom w p (cond (startsWith w p s) (valueOf (drop 1 s)) v) (optionsOf (afterOption s))
 unfolding optionsOf
 last-step w p v [] h = absurd (omega arith)
 last-step w p v (x ∷ []) h = step-one x (isLetter x) refl w p v
@@ -76,14 +85,14 @@ pub record Last (w : Wanted) (p : ℕ) (s : List ℕ) (from to at : ℕ) : Type 
   pub order : from ≤ to
   pub inside : to ≤ length s
   pub place : at ≤ length s
-  pub is : lastOf w p [] (optionsOf s) ≡ lastOf w p (take (to - from) (drop from s)) (optionsOf (drop at s))
+  pub is : lastFrom w p [] (optionsOf s) ≡ lastFrom w p (take (to - from) (drop from s)) (optionsOf (drop at s))
 
 pub last-none : (w : Wanted) (p : ℕ) (s : List ℕ) → Last w p s 0 0 0
 last-none w p s = record { order = omega arith; inside = omega arith; place = omega arith; is = refl }
 
 module _ {w : Wanted} {p : ℕ} {s : List ℕ} {from to at : ℕ} (l : Last w p s from to at) where
   module _ (h : at < length s) where
-    at-step : (k : ℕ) → drop (at + k) s ≡ afterOption (drop at s) → lastOf w p [] (optionsOf s) ≡ lastOf w p (cond (startsWith w p (take (length s - at) (drop at s))) (valueOf (drop 1 (drop at s))) (take (to - from) (drop from s))) (optionsOf (drop (at + k) s))
+    at-step : (k : ℕ) → drop (at + k) s ≡ afterOption (drop at s) → lastFrom w p [] (optionsOf s) ≡ lastFrom w p (cond (startsWith w p (take (length s - at) (drop at s))) (valueOf (drop 1 (drop at s))) (take (to - from) (drop from s))) (optionsOf (drop (at + k) s))
     at-step k e = l .is ∙ last-step w p (take (to - from) (drop from s)) (drop at s) (rw length-drop (omega arith)) ∙ rw (e, rest s at)
 
     pub last-found : {r k : ℕ} → startsWith w p (take (length s - at) (drop at s)) ≡ true → Leading (valueOf (take (length s - (at + 1)) (drop (at + 1) s))) (take (length s - (at + 1)) (drop (at + 1) s)) r → OptionLen (take (length s - at) (drop at s)) k → Last w p s (at + 1) (at + 1 + r) (at + k)
@@ -97,6 +106,6 @@ module _ {w : Wanted} {p : ℕ} {s : List ℕ} {from to at : ℕ} (l : Last w p 
         let y = option-at s at k (l .place) o in
         record { order = l .order; inside = l .inside; place = y .1; is = at-step k (y .0) ∙ simp e }
 
-  pub last-end : length s ≤ at → take (to - from) (drop from s) ≡ lastOf w p [] (optionsOf s)
+  pub last-end : length s ≤ at → take (to - from) (drop from s) ≡ lastOf w p (optionsOf s)
   unfolding optionsOf
   last-end h = sym (l .is ∙ rw (drop-of-length-le s {i = at} h))

@@ -4,3 +4,6 @@ pub mod Options
 pub mod Maxicode
 -- 01, "Grammar": `b` and its five types
 pub mod Barcode2d
+-- inner: how the reader tells a type, and goes through parameters
+pub mod Letters
+pub mod OptionSteps

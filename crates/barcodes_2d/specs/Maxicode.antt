@@ -12,15 +12,16 @@ use Rattle.text.specs.Fields.{same}
 abbrev pub header : List ℕ
 header = 0x5b ∷ 0x29 ∷ 0x3e ∷ 0x1e ∷ 0x30 ∷ 0x31 ∷ 0x1d ∷ []
 
+-- a text begins with the header
 unfoldable pub headerAt : List ℕ → Bool
 headerAt s = same (take 7 s) header
 
--- where it "first stands", or the length
+-- where the header "first stands" in a text, or its length
 unfoldable pub headerPlace : List ℕ → ℕ
 headerPlace [] = zero
 headerPlace (b ∷ s) = cond (headerAt (b ∷ s)) zero (suc (headerPlace s))
 
--- of the bytes before the header: those "from 6 up to it are digits and at least one"
+-- of the bytes before the header, s, those "from 6 up to it are digits and at least one"
 unfoldable pub postal : List ℕ → Bool
 postal s = ltb 6 (length s) && allDigits (drop 6 s)
 

@@ -1,10 +1,10 @@
 // The parameters of `b` behind its type: a letter and its value, a run of digits or one letter, several in a field.
 // A comma is neither letter nor digit, so that the fields need no splitting. Each function looks at a byte a fixed number of times.
 ghost use mathlib.Core.Path.{_≡_};
-ghost use mathlib.Core.List.{[]};
 ghost use Rattle.text.specs.Class.{isDigit};
 ghost use Rattle.text.specs.Blank.{front};
-ghost use Rattle.barcodes_2d.specs.Options.{valueOf, Leading, OptionLen, startsWith, isNumber, isLevel, accepted, lastOf, lastCount, lastNumber, clamped, lastClamped, optionsOf};
+ghost use Rattle.barcodes_2d.specs.OptionSteps.{valueOf, Leading, OptionLen, startsWith};
+ghost use Rattle.barcodes_2d.specs.Options.{isNumber, isLevel, accepted, lastOf, lastCount, lastNumber, clamped, lastClamped, optionsOf};
 use bytes::class::is_digit;
 use bytes::class::is_letter;
 use numbers::int::max;
@@ -104,7 +104,7 @@ pub fn starts_with(s: &[u8], p: u8, wanted: Wanted) -> bool
 
 // The value of the last parameter p that counts: empty where there is none.
 pub fn last(s: &[u8], p: u8, wanted: Wanted) -> &[u8]
-    ensures { λ r. ⌜ now r ≡ lastOf wanted p [] (optionsOf (now (s .entry))) ⌝ }
+    ensures { λ r. ⌜ now r ≡ lastOf wanted p (optionsOf (now (s .entry))) ⌝ }
 {
     let mut from = 0;
     let mut to = 0;

@@ -6,9 +6,10 @@ use mathlib.Core.List.{List}
 use Prim.Native.Nat.{ℕ, _+_}
 use native.Mathlib.Omega.{arith}
 use lib.Dec.{eqb, leb, ltb}
-use lib.IntN.{ℤ}
+use lib.IntN.{ℤ, pos}
 use lib.ListN.{length, drop}
-use Rattle.text.specs.Fields.{indexOf, after, fields, quoted}
+use Rattle.text.specs.Blank.{trim}
+use Rattle.text.specs.Fields.{indexOf, fields, field, quoted}
 use Rattle.text.specs.Utf8.{decode}
 use Rattle.elements.specs.declared.DataSpan.{DataSpan}
 use Rattle.elements.specs.declared.LabelElement.{LabelElement}
@@ -19,7 +20,8 @@ use Rattle.parameters.specs.declared.position.Placed.{Placed}
 use Rattle.parameters.specs.declared.position.Placed.the-variants as placing
 use Rattle.parameters.specs.declared.reading.Reading.{Reading}
 use Rattle.parameters.specs.declared.reading.Reading.the-variants as reading
-use Rattle.parameters.specs.Params.{pointAt, typeAt}
+use Rattle.numbers.specs.Number.{fieldOr}
+use Rattle.parameters.specs.FieldValues.{fieldsFrom}
 use Rattle.parameters.specs.Position.{placed, yields}
 use Rattle.parameters.specs.Reading.{laterReading}
 use Rattle.texts.specs.declared.epl_text.TextFields.{TextFields}
@@ -106,7 +108,7 @@ module _ (k : ℕ) where
   unfolding barcode2dReading
   barcode-2d-later s t d r =
       later-cond (ltb (length (fields s)) 3) _ _ _ _ refl
-      (later-2d (symbologyOf (typeAt (after 44 (after 44 s)))) (after 44 (after 44 (after 44 s))) t (placed (pointAt s .x) (pointAt s .y) r) d)
+      (later-2d (symbologyOf (trim (field s 2))) (fieldsFrom 3 s) t (placed (fieldOr (pos 0) (field s 0)) (fieldOr (pos 0) (field s 1)) r) d)
 
   data-later : (c : DataCommand) (s t : List ℕ) (d : DataSpan) (r : LabelPosition) → Later (withData c s t (later k d) r) (withData c s t d r)
   data-later command.Text s t d r = text-later s d r

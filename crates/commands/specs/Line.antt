@@ -9,7 +9,8 @@ use Rattle.text.specs.Fields.{indexOf, before, quoted, withoutTrailingCommas}
 use Rattle.elements.specs.declared.DataSpan.{DataSpan}
 use Rattle.elements.specs.declared.LabelPosition.{LabelPosition}
 use Rattle.spelling.specs.declared.command.Command.{Command}
-use Rattle.spelling.specs.declared.command.Command.the-variants.{Clear, Reference, Data, Line, Diagonal, Box, Print, Other}
+use Rattle.spelling.specs.declared.command.Command.the-variants.{Clear, Reference, Data, Line, Diagonal, Box, Print}
+use Rattle.spelling.specs.declared.command.Command.the-variants.{Other}
 use Rattle.spelling.specs.declared.command.DataCommand.{DataCommand}
 use Rattle.spelling.specs.declared.command.DataCommand.the-variants.{Text, Barcode, Barcode2d}
 use Rattle.parameters.specs.declared.reading.Reading.{Reading}
@@ -37,7 +38,8 @@ spanOf lead t = record { start = lead + indexOf 34 t + 1; len = length (quoted t
 
 -- "Fewer than two quotes, or no data: nothing is read"
 unfoldable pub quotedReading : DataCommand → ℕ → List ℕ → LabelPosition → Reading
-quotedReading c lead t r = cond (eqb (length (quoted t)) 0) reading.Nothing (withData c (paramsOf t) (quoted t) (spanOf lead t) r)
+quotedReading c lead t r =
+    cond (eqb (length (quoted t)) 0) reading.Nothing (withData c (paramsOf t) (quoted t) (spanOf lead t) r)
 
 -- "`R` and `N` set the reference": what a line says that sets it to p
 abbrev pub setTo : LabelPosition → Reading

@@ -2,8 +2,8 @@
 -- Assumes nothing.
 use mathlib.Core.Path.{_≡_, refl}
 use mathlib.Core.Bool.{true, false}
-use mathlib.Core.List.{[], _∷_}
 use lib.IntN.{pos, negsuc}
+use Rattle.text.specs.Ascii.{ascii}
 use Rattle.text.specs.Fields.{before, after, fields}
 use Rattle.numbers.specs.Number.{numberSpelled}
 use Rattle.elements.specs.declared.LabelElement.the-variants.{GraphicBox, DiagonalLine}
@@ -11,44 +11,44 @@ use Rattle.elements.specs.declared.LabelPosition.{LabelPosition}
 use Rattle.elements.specs.declared.LineColor.the-variants.{Black}
 use Rattle.elements.specs.declared.refusal.Refusal.the-variants.{OutOfRange}
 use Rattle.parameters.specs.declared.reading.Reading.the-variants.{Element, Refused}
-use Rattle.parameters.specs.Params.{numberAt, sizeAt, pointAt}
+use Rattle.parameters.specs.FieldValues.{sizeOr, pointOf}
 use Rattle.parameters.specs.Position.{placed}
-use Rattle.draws.specs.Draw.{lineFields, lineElement, lineReading, cornersAt, extentOf, drawnAt, diagonalReading, boxReading}
+use Rattle.draws.specs.Draw.{lineFields, lineElement, lineReading, cornersAt, drawnAt, diagonalReading, boxReading}
 
 abbrev origin : LabelPosition
 origin = record { x = pos 0; y = pos 0 }
 
 -- `1,2,3,` of `LO` has 4 fields, the last of them empty: height 1
 empty-height :
-    lineReading (0x31 ∷ 0x2c ∷ 0x32 ∷ 0x2c ∷ 0x33 ∷ 0x2c ∷ []) Black origin ≡
+    lineReading (ascii "1,2,3,") Black origin ≡
     Element (GraphicBox (record { position = record { x = pos 1; y = pos 2 }; width = pos 3; height = pos 1; «border_thickness» = pos 1; «line_color» = Black }))
-unfolding lineReading lineFields lineElement placed pointAt sizeAt numberAt numberSpelled before after fields
+unfolding lineReading lineFields lineElement placed pointOf sizeOr numberSpelled before after fields
 empty-height = refl
 
 -- `5,5,1,5,5` of `LS`: both differences are zero, direction 1
 point :
-    diagonalReading (0x35 ∷ 0x2c ∷ 0x35 ∷ 0x2c ∷ 0x31 ∷ 0x2c ∷ 0x35 ∷ 0x2c ∷ 0x35 ∷ []) origin ≡
+    diagonalReading (ascii "5,5,1,5,5") origin ≡
     Element (DiagonalLine (record { position = record { x = pos 5; y = pos 5 }; width = pos 0; height = pos 0; «border_thickness» = pos 1; «top_to_bottom» = true }))
-unfolding diagonalReading cornersAt drawnAt extentOf placed pointAt sizeAt numberAt numberSpelled before after fields
+unfolding diagonalReading cornersAt drawnAt placed pointOf sizeOr numberSpelled before after fields
 point = refl
 
 -- `0,0,1,9,0` of `LS`: one is positive and one zero, direction 0
 flat :
-    diagonalReading (0x30 ∷ 0x2c ∷ 0x30 ∷ 0x2c ∷ 0x31 ∷ 0x2c ∷ 0x39 ∷ 0x2c ∷ 0x30 ∷ []) origin ≡
+    diagonalReading (ascii "0,0,1,9,0") origin ≡
     Element (DiagonalLine (record { position = origin; width = pos 9; height = pos 0; «border_thickness» = pos 1; «top_to_bottom» = false }))
-unfolding diagonalReading cornersAt drawnAt extentOf placed pointAt sizeAt numberAt numberSpelled before after fields
+unfolding diagonalReading cornersAt drawnAt placed pointOf sizeOr numberSpelled before after fields
 flat = refl
 
 -- `2147483647,0,1,-1,0` of `X`: the width 2147483648 has no 32 bits
 too-wide :
-    boxReading (0x32 ∷ 0x31 ∷ 0x34 ∷ 0x37 ∷ 0x34 ∷ 0x38 ∷ 0x33 ∷ 0x36 ∷ 0x34 ∷ 0x37 ∷ 0x2c ∷ 0x30 ∷ 0x2c ∷ 0x31 ∷ 0x2c ∷ 0x2d ∷ 0x31 ∷ 0x2c ∷ 0x30 ∷ []) origin ≡
+    boxReading (ascii "2147483647,0,1,-1,0") origin ≡
     Refused OutOfRange
-unfolding boxReading cornersAt drawnAt extentOf placed pointAt sizeAt numberAt numberSpelled before after fields
+unfolding boxReading cornersAt drawnAt placed pointOf sizeOr numberSpelled before after fields
 too-wide = refl
 
 -- `2147483646,0,1,-1,0` of `X`: the widest box
 widest :
-    boxReading (0x32 ∷ 0x31 ∷ 0x34 ∷ 0x37 ∷ 0x34 ∷ 0x38 ∷ 0x33 ∷ 0x36 ∷ 0x34 ∷ 0x36 ∷ 0x2c ∷ 0x30 ∷ 0x2c ∷ 0x31 ∷ 0x2c ∷ 0x2d ∷ 0x31 ∷ 0x2c ∷ 0x30 ∷ []) origin ≡
+    boxReading (ascii "2147483646,0,1,-1,0") origin ≡
     Element (GraphicBox (record { position = record { x = negsuc 0; y = pos 0 }; width = pos 2147483647; height = pos 0; «border_thickness» = pos 1; «line_color» = Black }))
-unfolding boxReading cornersAt drawnAt extentOf placed pointAt sizeAt numberAt numberSpelled before after fields
+unfolding boxReading cornersAt drawnAt placed pointOf sizeOr numberSpelled before after fields
 widest = refl

@@ -1,6 +1,7 @@
 // `LO` and `LW`: lines as boxes; `LS`: diagonals; `X`: boxes by two corners.
 ghost use mathlib.Core.Path.{_≡_};
-ghost use Rattle.draws.specs.Draw.{lineElement, lineReading, cornersRead, extentOf, drawnAt, sameWay, diagonalOf, diagonalReading, boxOf, boxReading};
+ghost use Rattle.draws.specs.Draw.{lineElement, lineReading, drawnAt, diagonalOf, diagonalReading, boxOf, boxReading};
+ghost use Rattle.draws.specs.Axes.{cornersRead, extentOf, sameWay};
 use elements::GraphicBox;
 use elements::GraphicDiagonalLine;
 use elements::LabelElement;
@@ -170,7 +171,7 @@ pub fn drawn_at(c: Corners, reference: LabelPosition) -> Cornered
     })
 }
 
-// Both positive, both negative or both zero.
+// The differences along both axes are both positive, both negative or both zero: ax and ay say that they rise, bx and by that they fall.
 pub fn same_way(ax: bool, bx: bool, ay: bool, by: bool) -> bool
     ensures { λ r. ⌜ r ≡ sameWay ax bx ay by ⌝ }
 {

@@ -1,21 +1,19 @@
--- What the normaliser takes first: it stands there, nothing is taken from [] alone, and normalised text is unrolled by one chunk without its fuel.
+-- What the normaliser takes first: it stands there, and normalised text is unrolled by one chunk without its fuel.
 -- Assumes nothing.
-use mathlib.Core.Path.{_≡_, refl, sym, ap, _∙_}
-use mathlib.Core.List.{List, [], _∷_, _++_}
+use mathlib.Core.Path.{_≡_, refl, ap, _∙_}
+use mathlib.Core.List.{List, _++_}
 use Prim.Native.Nat.{ℕ, zero, suc, _<_}
 use native.Mathlib.Omega.{arith}
 use lib.ListN.{length, length-append}
-use Rattle.text.specs.Blank.{dropWhile, front}
 use Rattle.graphics.specs.declared.gw_span.Graphic.{Graphic}
 use Rattle.graphics.specs.declared.gw_span.Graphic.the-variants as graphic
 use Rattle.graphics.specs.Block.{gwSpan}
 use Rattle.whole.specs.Language.{First, none, bad, unit}
 use Rattle.whole.specs.Normal.{each}
-use Rattle.whole.proofs.DivisionLaws.{bad≢unit, none≢unit, bad≢none}
-use Rattle.grammar.specs.Units.{EplUnit, bytes, notLf}
-use Rattle.grammar.specs.Found.{lineBy, textLine, found, first}
+use Rattle.grammar.specs.Units.{EplUnit, bytes}
+use Rattle.grammar.specs.Found.{found, first}
 use Rattle.grammar.specs.Normal.{normal, chunkBy, chunk, written, normalisedBy, normalised}
-use Rattle.grammar.proofs.LineLaws.{Cut, line-sound, text-line-none}
+use Rattle.grammar.proofs.LineLaws.{Cut, line-sound}
 use Rattle.grammar.proofs.FoundLaws.{reads}
 
 -- a chunk stands first, and has a byte at least
@@ -27,33 +25,6 @@ chunk-sound s u rest h = by (gwSpan s) refl h
     by graphic.Nothing e h = line-sound s u rest h .0
     by (graphic.Refused n) e h = line-sound s u rest h .0
     by (graphic.Span g) e h = let f = reads .sound s u rest (ap (found s) e ∙ h) in (f .0, f .2)
-
-pub chunk-none : (s : List ℕ) → chunk s ≡ none → s ≡ []
-unfolding chunk
-chunk-none s h = by (gwSpan s) h
-  where
-    by : (o : Graphic) → chunkBy s o ≡ none → s ≡ []
-    by graphic.Nothing h = text-line-none s h
-    by (graphic.Refused n) h = text-line-none s h
-    by (graphic.Span g) h = absurd (none≢unit (sym h))
-
-text-line-good : (s : List ℕ) (n : ℕ) → textLine s ≡ bad n → ⊥
-text-line-good s n h = by (front notLf s) (dropWhile notLf s) h
-  where
-    by : (t r : List ℕ) → lineBy t r ≡ bad n → ⊥
-    by [] [] h = bad≢none (sym h)
-    by (b ∷ t) [] h = bad≢unit (sym h)
-    by t (b ∷ r) h = bad≢unit (sym h)
-
--- nothing is at fault
-pub chunk-good : (s : List ℕ) (n : ℕ) → chunk s ≡ bad n → ⊥
-unfolding chunk
-chunk-good s n h = by (gwSpan s) h
-  where
-    by : (o : Graphic) → chunkBy s o ≡ bad n → ⊥
-    by graphic.Nothing h = text-line-good s n h
-    by (graphic.Refused k) h = text-line-good s n h
-    by (graphic.Span g) h = bad≢unit (sym h)
 
 -- what is written of a string asks only for what is written of shorter ones
 written-same : (s : List ℕ) (f g : List ℕ → List ℕ) → ((t : List ℕ) → length t < length s → f t ≡ g t) → written (chunk s) f ≡ written (chunk s) g

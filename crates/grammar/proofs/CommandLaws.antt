@@ -9,7 +9,7 @@ use lib.IntN.{ℤ}
 use lib.ListN.{length}
 use borrow.Author.Tests.{leb-true, leb-false, le-ltb, lt-ltb}
 use Rattle.text.specs.Blank.{trim}
-use Rattle.text.specs.Fields.{after, fields, field}
+use Rattle.text.specs.Fields.{fields, field}
 use Rattle.text.specs.Utf8.{decode}
 use Rattle.text.proofs.BoolLaws.{test}
 use Rattle.elements.specs.declared.DataSpan.{DataSpan}
@@ -24,7 +24,7 @@ use Rattle.parameters.specs.declared.position.Placed.{Placed}
 use Rattle.parameters.specs.declared.position.Placed.the-variants as placing
 use Rattle.parameters.specs.declared.reading.Reading.{Reading}
 use Rattle.parameters.specs.declared.reading.Reading.the-variants as reading
-use Rattle.parameters.specs.Params.{pointAt, typeAt}
+use Rattle.parameters.specs.FieldValues.{fieldsFrom}
 use Rattle.parameters.specs.Position.{placed, yields}
 use Rattle.texts.specs.declared.epl_text.TextFields.{TextFields}
 use Rattle.texts.specs.declared.fonts.Scaled.{Scaled}
@@ -47,6 +47,7 @@ use Rattle.spelling.specs.declared.command.Command.the-variants.{Data}
 use Rattle.spelling.specs.declared.command.DataCommand.{DataCommand}
 use Rattle.spelling.specs.declared.command.DataCommand.the-variants as command
 use Rattle.commands.specs.Line.{withData}
+use Rattle.grammar.specs.Units.{number}
 use Rattle.grammar.specs.WellFormed.{atLeast, dataCounted, dataTyped, dataSized, typeFault, countFault}
 use Rattle.grammar.proofs.TypeLaws.{isListed2d, isQr, typed-2d}
 
@@ -145,7 +146,7 @@ meets-type true f d r h = simp h (passed-placed f d (placed (f .at .x) (f .at .y
 meets-type false f d r h = simp h (refusal.BarcodeType, refl, refl)
 
 meets-barcode : (s t : List ℕ) (d : DataSpan) (r : LabelPosition) → MeetsData command.Barcode s t d (barcodeReading s d r)
-unfolding barcodeReading barcodeFields typeAt
+unfolding barcodeReading barcodeFields
 meets-barcode s t d r =
     let y = dataTyped command.Barcode s in
     meets-count (length (fields s)) 8 y true (cond y 9 7) refusal.BarcodeFields (d ∷ []) _ (meets-type y (barcodeFields s) d r (listed-is (trim (field s 3))))
@@ -166,11 +167,11 @@ meets-type-2d two.Qr s t p d =
 meets-type-2d two.Unlisted s t p d = (refusal.Barcode2dType, refl, refl)
 
 meets-barcode-2d : (s t : List ℕ) (d : DataSpan) (r : LabelPosition) → MeetsData command.Barcode2d s t d (barcode2dReading s t d r)
-unfolding barcode2dReading typeAt
+unfolding barcode2dReading
 meets-barcode-2d s t d r =
     let y = dataTyped command.Barcode2d s in
     let f = trim (field s 2) in
-    let h = meets-type-2d (symbologyOf f) (after 44 (after 44 (after 44 s))) t (placed (pointAt s .x) (pointAt s .y) r) d in
+    let h = meets-type-2d (symbologyOf f) (fieldsFrom 3 s) t (placed (number (field s 0)) (number (field s 1)) r) d in
     meets-count (length (fields s)) 3 y (dataSized command.Barcode2d s t) (cond y 9 8) refusal.Barcode2dFields (d ∷ []) _
     (rw (← typed-2d f .0, ← typed-2d f .1) h)
 

@@ -39,7 +39,7 @@ ends-by (b ∷ r) h = eqb-true b 10 (not-false (eqb b 10) (h b r refl))
 line-of : (s : List ℕ) → FirstLine s (front notLf s)
 line-of s = record { rest = dropWhile notLf s; cut = sym (front-drop notLf s); one-line = front-all notLf s; ends = ends-by (dropWhile notLf s) (drop-stops notLf s) }
 
--- it is cut in one way
+-- the first line is cut in one way
 front-is : {s t : List ℕ} → FirstLine s t → front notLf s ≡ t
 front-is {s} {t} l = ap (front notLf) (l .cut) ∙ by (l .rest) (l .ends)
   where

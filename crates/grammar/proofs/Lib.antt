@@ -29,7 +29,7 @@ pub mod BecomesLaws
 pub mod RangeLaws
 pub mod ShapeLaws
 pub mod NumberFieldLaws
--- the same of a division: its labels; of what is refused: what stands first, the earliest
+-- 01's words and the reader, of a division: its labels; and of what is refused: what stands first, the earliest
 pub mod InRangeLaws
 pub mod FaultLaws
 pub mod EarliestLaws

@@ -9,8 +9,10 @@ use native.Mathlib.Omega.{arith}
 use lib.Dec.{eqb, leb}
 use lib.ListN.{length, drop}
 use borrow.Author.Tests.{leb-true, leb-false, le-leb, lt-leb, eqb-false, ne-eqb}
+use Rattle.text.specs.Ascii.{ascii}
 use Rattle.text.specs.Blank.{trim}
 use Rattle.text.specs.Fields.{field, quoted, same}
+use Rattle.text.specs.Table.{anyOf}
 use Rattle.text.specs.Utf8.{decode}
 use Rattle.text.proofs.BoolLaws.{test}
 use Rattle.text.proofs.FieldsLaws.{same-refl, same-true}
@@ -19,11 +21,12 @@ use Rattle.spelling.specs.declared.command.Command.the-variants.{Clear, Referen
 use Rattle.spelling.specs.declared.command.DataCommand.{DataCommand}
 use Rattle.spelling.specs.declared.command.DataCommand.the-variants.{Text, Barcode, Barcode2d}
 use Rattle.spelling.specs.Command.{commandOf}
-use Rattle.barcodes.specs.Barcode.{types, anyOf}
+use Rattle.barcodes.specs.Barcode.{types}
+use Rattle.barcodes_2d.specs.Barcode2d.{types2d}
 use Rattle.commands.specs.Line.{paramsOf}
 use Rattle.grammar.specs.Spelled.{Spells}
 use Rattle.grammar.specs.LineFaults.{count, OneOf, SpellsRead, LineFault, few-a, few-b, few-2d, few-line, few-ls, few-x, type-b, type-2d, long-qr}
-use Rattle.grammar.specs.WellFormed.{types2d, atLeast, wellFormedAs, wellFormed, faultAs, faultOf}
+use Rattle.grammar.specs.WellFormed.{atLeast, wellFormedAs, wellFormed, faultAs, faultOf}
 use Rattle.grammar.proofs.SpelledLaws.{command-spells, spells-command}
 
 one-any : (xs : List (List ℕ)) (f : List ℕ) → OneOf xs f → anyOf xs f ≡ true
@@ -71,10 +74,10 @@ module _ (t : List ℕ) where
       let n = length (decode (quoted t)) in
       test (atLeast 3 params)
       (λ e. test (anyOf types2d f)
-      (λ y. test (same f (0x51 ∷ []))
+      (λ y. test (same f (ascii "Q"))
       (λ q. test (leb n 9999)
       (λ l. absurd (true≢false (rw (r, e, y, q, l) at h)))
-      (λ l. simp (e, y) (long-qr p (leb-true 3 (count params) e) (same-true f (0x51 ∷ []) q) (leb-false n 9999 l))))
+      (λ l. simp (e, y) (long-qr p (leb-true 3 (count params) e) (same-true f (ascii "Q") q) (leb-false n 9999 l))))
       (λ q. absurd (true≢false (rw (r, e, y, q) at h))))
       (λ y. simp (e, y) (type-2d p (leb-true 3 (count params) e) (any-not types2d f y))))
       (λ e. simp e (few-2d p (leb-false 3 (count params) e)))

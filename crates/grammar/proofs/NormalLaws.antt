@@ -13,7 +13,7 @@ use Rattle.graphics.specs.Block.{opensGw, gwSpan}
 use Rattle.whole.specs.Language.{First, none, bad, unit}
 use Rattle.whole.specs.Normal.{each, Grows, no-longer, by-block, by-last}
 use Rattle.whole.proofs.DivisionLaws.{bad≢unit}
-use Rattle.grammar.specs.Ascii.{spelt}
+use Rattle.text.specs.Ascii.{spelt}
 use Rattle.grammar.specs.Units.{Header, EplUnit, block, line, last, bytes, Stands}
 use Rattle.grammar.specs.Found.{textLine, found, first}
 use Rattle.grammar.specs.Normal.{kept, normal, blocks, chunkBy, chunk, written, normalised}
@@ -81,7 +81,7 @@ normal-grows (block bs h p) rest st = by-block (normal-le (block bs h p)) (simp 
 normal-grows (line t) rest st = line-grows t rest
 normal-grows (last t) rest st = by-last (normal-le (last t)) (st .2)
 
--- the same of a line that is taken as text, whatever it says
+-- a line that is taken as text, whatever it says, grows as one that is well formed
 text-grows : (u : EplUnit) (rest : List ℕ) → TextLine u rest → Grows (length (bytes u)) (length (each bytes (normal u))) rest
 text-grows (block bs h p) rest st = absurd st
 text-grows (line t) rest st = line-grows t rest

@@ -79,7 +79,7 @@ in-32 z h = test (in32 z) (λ e. e) (λ e. absurd (unfit z e h))
 value≢other : {z : ℤ} → Value z ≡ Other → ⊥
 value≢other e = let z : _≡_ {A = ℕ} 0 1 = cc in omega arith
 
--- it writes no number that fits
+-- a field that is no number writes none that fits
 none-fits : (f : List ℕ) → numberSpelled (trim f) ≡ Other → (z : ℤ) → Writes (trim f) z → Signed32 z → ⊥
 none-fits f e z w h = value≢other {z = z} (sym (spelled-as w ∙ (simp (in-32 z h))) ∙ e)
 

@@ -1,7 +1,7 @@
 -- A unit is refused as 13 exactly where one of its numbers (`sizesOf`) leaves 32 bits, and with any other number never; where all fit it does what its role says.
 -- Assumes nothing.
 use mathlib.Core.Path.{_≡_, refl, sym, ap, _∙_}
-use mathlib.Core.Bool.{true, false, cond, not, _&&_, _||_, false≢true}
+use mathlib.Core.Bool.{Bool, true, false, cond, not, _&&_, _||_, false≢true}
 use mathlib.Core.List.{List, [], _∷_, _++_}
 use mathlib.Core.Logic.{_⊎_, inl, inr}
 use Prim.Native.Nat.{ℕ, suc}
@@ -25,19 +25,18 @@ use Rattle.parameters.specs.declared.position.Placed.{Placed}
 use Rattle.parameters.specs.declared.position.Placed.the-variants as placing
 use Rattle.parameters.specs.declared.reading.Reading.{Reading}
 use Rattle.parameters.specs.declared.reading.Reading.the-variants as reading
-use Rattle.parameters.specs.Params.{numberAt, sizeAt, pointAt, typeAt}
+use Rattle.parameters.specs.FieldValues.{pointOf, fieldsFrom}
 use Rattle.parameters.specs.Position.{placed}
 use Rattle.parameters.specs.Position as position
 use Rattle.texts.specs.declared.epl_text.TextFields.{TextFields}
 use Rattle.texts.specs.declared.fonts.Scaled.{Scaled}
 use Rattle.texts.specs.declared.fonts.Scaled.the-variants as scaled
 use Rattle.texts.specs.Font.{cellOf, fontOf}
-use Rattle.texts.specs.Text.{scaleAt, textFields, textOf, textElement, textReading}
+use Rattle.texts.specs.Text.{textFields, textOf, textElement, textReading}
 use Rattle.draws.specs.declared.draw.Corners.{Corners}
-use Rattle.draws.specs.declared.draw.Extent.{Extent}
 use Rattle.draws.specs.declared.draw.Cornered.{Cornered}
 use Rattle.draws.specs.declared.draw.Cornered.the-variants as cornered
-use Rattle.draws.specs.Draw.{lineFields, lineElement, lineReading, cornersAt, extentOf, cornersPlaced, drawnAt, diagonalOf, diagonalReading, boxOf, boxReading}
+use Rattle.draws.specs.Draw.{lineFields, lineElement, lineReading, cornersAt, drawnBy, drawnAt, diagonalOf, diagonalReading, boxOf, boxReading}
 use Rattle.barcodes.specs.declared.barcode.Barcode.{Barcode}
 use Rattle.barcodes.specs.declared.barcode.BarcodeFields.{BarcodeFields}
 use Rattle.barcodes.specs.declared.barcode.Symbology.{Symbology}
@@ -172,12 +171,12 @@ NotAt cornered.Outside = Unit
 abbrev CorneredBy : List ℤ → Cornered → Type 0
 CorneredBy zs c = Either zs (IsAt c) (NotAt c)
 
-corners-placed : (xs ys : List ℤ) (a d : Extent) (p : Placed) → PlacedBy xs p → AllFit ys → CorneredBy (xs ++ ys) (cornersPlaced a d p)
-corners-placed xs ys a d p (inl h) k = rw (h .1 .1) (inl (all-append xs ys (h .0) k, tt))
-corners-placed xs ys a d p (inr h) k = rw (h .1) (inr (out-left xs ys (h .0), tt))
+drawn-placed : (xs ys : List ℤ) (w h : ℤ) (way : Bool) (p : Placed) → PlacedBy xs p → AllFit ys → CorneredBy (xs ++ ys) (drawnBy w h way p)
+drawn-placed xs ys w h way p (inl e) k = rw (e .1 .1) (inl (all-append xs ys (e .0) k, tt))
+drawn-placed xs ys w h way p (inr e) k = rw (e .1) (inr (out-left xs ys (e .0), tt))
 
 draw : (c : Corners) (r : LabelPosition) → CorneredBy (between (c .first .x) (c .first .y) (c .second .x) (c .second .y) r) (drawnAt c r)
-unfolding drawnAt extentOf
+unfolding drawnAt
 draw c r =
     let x = c .second .x -ℤ c .first .x in let y = c .second .y -ℤ c .first .y in
     let u = minZ (c .first .x) (c .second .x) in let v = minZ (c .first .y) (c .second .y) in
@@ -185,7 +184,7 @@ draw c r =
     (λ a. test (in32 y)
     (λ b. test (in32 (absZ x))
     (λ e. test (in32 (absZ y))
-    (λ f. simp (a, b, e, f) (corners-placed (sums u v r) (x ∷ y ∷ absZ x ∷ absZ y ∷ []) _ _ (placed u v r) (place u v r) (fit x a, (fit y b, (fit (absZ x) e, (fit (absZ y) f, tt))))))
+    (λ f. simp (a, b, e, f) (drawn-placed (sums u v r) (x ∷ y ∷ absZ x ∷ absZ y ∷ []) _ _ _ (placed u v r) (place u v r) (fit x a, (fit y b, (fit (absZ x) e, (fit (absZ y) f, tt))))))
     (λ f. simp (a, b, e, f) (inr (inr (inr (inr (inr (inr (inl (unfit (absZ y) f)))))), tt))))
     (λ e. simp (a, b, e) (inr (inr (inr (inr (inr (inl (unfit (absZ x) e))))), tt))))
     (λ b. test (in32 (absZ x))
@@ -213,21 +212,21 @@ drawn-enough : (k : ℕ) (s : List ℕ) → (atLeast k s && true && true) ≡ tr
 drawn-enough k s e = and-both (atLeast k s) true (and-both (atLeast k s && true) true e .0) .0
 
 ranged-line : (s : List ℕ) (c : LineColor) (r : LabelPosition) → atLeast 4 s ≡ true → Ranged (sums (number (field s 0)) (number (field s 1)) r) (lineReading s c r)
-unfolding lineReading lineElement lineFields pointAt numberAt
+unfolding lineReading lineElement lineFields pointOf
 ranged-line s c r e =
     let x = number (field s 0) in let y = number (field s 1) in
     enough (length (fields s)) 4 refusal.LineFields _ (sums x y r) e (ranged-yields (sums x y r) (placed x y r) _ (place x y r))
 
 ranged-ls : (s : List ℕ) (r : LabelPosition) → atLeast 5 s ≡ true → Ranged (cornerSizes s r) (diagonalReading s r)
-unfolding diagonalReading cornersAt pointAt numberAt
+unfolding diagonalReading cornersAt pointOf
 ranged-ls s r e = enough (length (fields s)) 5 refusal.DiagonalFields _ (cornerSizes s r) e (ranged-diagonal (cornerSizes s r) _ (drawnAt (cornersAt s) r) (draw (cornersAt s) r))
 
 ranged-x : (s : List ℕ) (r : LabelPosition) → atLeast 5 s ≡ true → Ranged (cornerSizes s r) (boxReading s r)
-unfolding boxReading cornersAt pointAt numberAt
+unfolding boxReading cornersAt pointOf
 ranged-x s r e = enough (length (fields s)) 5 refusal.BoxFields _ (cornerSizes s r) e (ranged-box (cornerSizes s r) _ (drawnAt (cornersAt s) r) (draw (cornersAt s) r))
 
 ranged-a : (s : List ℕ) (d : DataSpan) (r : LabelPosition) → atLeast 7 s ≡ true → Ranged (dataSizes command.Text s r) (textReading s d r)
-unfolding textReading textElement textFields scaleAt sizeAt pointAt numberAt
+unfolding textReading textElement textFields pointOf
 ranged-a s d r e =
     let f = textFields s in
     let p = sums (f .at .x) (f .at .y) r in
@@ -253,7 +252,7 @@ ranged-bars zs f d p h (inl k) = rw (k .1 .1) (ranged-barcode zs (f .symbology) 
 ranged-bars zs f d p h (inr k) = inr (k .0, rw (k .1))
 
 ranged-b : (s : List ℕ) (d : DataSpan) (r : LabelPosition) → atLeast 8 s ≡ true → dataTyped command.Barcode s ≡ true → Ranged (dataSizes command.Barcode s r) (barcodeReading s d r)
-unfolding barcodeReading barcodeAt barcodeFields typeAt pointAt numberAt
+unfolding barcodeReading barcodeAt barcodeFields pointOf
 ranged-b s d r e t =
     let f = barcodeFields s in
     let l : isListed (f .symbology) ≡ true = listed-is (trim (field s 3)) ∙ t in
@@ -270,12 +269,12 @@ ranged-2d zs two.Qr s t p d l q h = rw q (ranged-yields zs p _ h)
 ranged-2d zs two.Unlisted s t p d l q h = absurd (false≢true l)
 
 ranged-b2 : (s t : List ℕ) (d : DataSpan) (r : LabelPosition) → atLeast 3 s ≡ true → dataTyped command.Barcode2d s ≡ true → dataSized command.Barcode2d s t ≡ true → Ranged (dataSizes command.Barcode2d s r) (barcode2dReading s t d r)
-unfolding barcode2dReading typeAt pointAt numberAt
+unfolding barcode2dReading
 ranged-b2 s t d r e l q =
     let f = trim (field s 2) in
     let x = number (field s 0) in let y = number (field s 1) in
     enough (length (fields s)) 3 refusal.Barcode2dFields _ (sums x y r) e
-    (ranged-2d (sums x y r) (symbologyOf f) (after 44 (after 44 (after 44 s))) t (placed x y r) d
+    (ranged-2d (sums x y r) (symbologyOf f) (fieldsFrom 3 s) t (placed x y r) d
     (typed-2d f .0 ∙ l) (rw (typed-2d f .1) q) (place x y r))
 
 ranged-data : (c : DataCommand) (s t : List ℕ) (d : DataSpan) (r : LabelPosition) → dataCounted c s ≡ true → dataTyped c s ≡ true → dataSized c s t ≡ true → Ranged (dataSizes c s r) (withData c s t d r)
@@ -374,6 +373,3 @@ module _ (r : LabelPosition) (u : EplUnit) (rest : List ℕ) (st : Stands u rest
       by : ActsAs r u → (n ≡ 13) × OneOut (sizesOf r u)
       by (inl h) = absurd (does-inside (roleOf u) r (refAfter r u) (acts r u) n (h .1) e)
       by (inr h) = (outside-inj (sym e ∙ h .1), h .0)
-
-  pub never-outside : AllFit (sizesOf r u) → (n : ℕ) → acts r u ≡ outside n → ⊥
-  never-outside a n e = clash (sizesOf r u) a (outside-only n e .1)

@@ -3,13 +3,12 @@
 use mathlib.Core.Path.{_≡_, refl, ap, subst, _∙_}
 use mathlib.Core.Bool.{Bool, true, false, cond, _&&_}
 use mathlib.Core.List.{List, [], _∷_, _++_}
-use mathlib.Core.Logic.{inl, inr}
 use Prim.Native.Nat.{ℕ}
 use lib.Dec.{eqb, leb, ltb}
 use lib.IntN.{ℤ, _+ℤ_, _-ℤ_}
 use lib.ListN.{length, take, drop}
 use Rattle.text.specs.Blank.{trim}
-use Rattle.text.specs.Fields.{after, fields, field, quoted}
+use Rattle.text.specs.Fields.{fields, field, quoted}
 use Rattle.text.specs.Utf8.{decode}
 use Rattle.text.proofs.BoolLaws.{test, and-both}
 use Rattle.numbers.specs.Int.{in32, minZ, absZ}
@@ -21,7 +20,7 @@ use Rattle.elements.specs.declared.refusal.Refusal.{Refusal}
 use Rattle.elements.specs.declared.refusal.Refusal.the-variants as refusal
 use Rattle.parameters.specs.declared.reading.Reading.{Reading}
 use Rattle.parameters.specs.declared.reading.Reading.the-variants as reading
-use Rattle.parameters.specs.Params.{numberAt, pointAt, typeAt}
+use Rattle.parameters.specs.FieldValues.{pointOf, fieldsFrom}
 use Rattle.parameters.specs.Position.{placed}
 use Rattle.parameters.specs.Position as position
 use Rattle.texts.specs.declared.epl_text.TextFields.{TextFields}
@@ -32,13 +31,17 @@ use Rattle.texts.specs.Text.{textFields, textOf, textElement, textReading}
 use Rattle.draws.specs.declared.draw.Corners.{Corners}
 use Rattle.draws.specs.declared.draw.Cornered.{Cornered}
 use Rattle.draws.specs.declared.draw.Cornered.the-variants as cornered
-use Rattle.draws.specs.Draw.{lineFields, lineElement, lineReading, cornersAt, extentOf, drawnAt, diagonalOf, diagonalReading, boxOf, boxReading}
+use Rattle.draws.specs.Draw.{lineFields, lineElement, lineReading, cornersAt, drawnAt, diagonalOf, diagonalReading, boxOf, boxReading}
 use Rattle.barcodes.specs.declared.barcode.Barcode.{Barcode}
 use Rattle.barcodes.specs.declared.barcode.BarcodeFields.{BarcodeFields}
 use Rattle.barcodes.specs.Barcode as bars
-use Rattle.barcodes.specs.Barcode.{types, isListed, oneLetter, code128Letter, twoLetters, threeLetters, barcodeFields, code128, interleaved, code39, ean13, ean8, upcA, upcE, barcodeElement, barcodePlaced, barcodeAt, barcodeReading}
+use Rattle.barcodes.specs.declared.barcode.Symbology.{Symbology}
+use Rattle.barcodes.specs.declared.barcode.Symbology.the-variants.{Code128, Interleaved, Code39, Ean13, Ean8, UpcA, UpcE, Unlisted}
+use Rattle.barcodes.specs.Barcode.{isListed, barcodeFields, code128, interleaved, code39, ean13, ean8, upcA, upcE, barcodeElement, barcodePlaced, barcodeAt, barcodeReading}
 use Rattle.barcodes.proofs.BarcodeLaws.{listed-is}
-use Rattle.barcodes_2d.specs.Barcode2d.{letterOf, symbologyOf, aztecReading, datamatrixReading, maxicodeReading, pdf417Reading, qrReading, barcode2dAt, barcode2dReading}
+use Rattle.barcodes_2d.specs.declared.barcode_2d.Symbology2d.{Symbology2d}
+use Rattle.barcodes_2d.specs.declared.barcode_2d.Symbology2d.the-variants as two
+use Rattle.barcodes_2d.specs.Barcode2d.{symbologyOf, aztecReading, datamatrixReading, maxicodeReading, pdf417Reading, qrReading, barcode2dAt, barcode2dReading}
 use Rattle.spelling.specs.declared.command.Command.{Command}
 use Rattle.spelling.specs.declared.command.Command.the-variants.{Clear, Reference, Data, Line, Diagonal, Box, Print, Other}
 use Rattle.spelling.specs.declared.command.DataCommand.{DataCommand}
@@ -46,13 +49,12 @@ use Rattle.spelling.specs.declared.command.DataCommand.the-variants as command
 use Rattle.spelling.specs.Command.{commandOf}
 use Rattle.commands.specs.Line.{paramsOf, withData, spanOf, quotedReading, commandReading, leadOf, readLine}
 use Rattle.whole.specs.Language.{yield}
-use Rattle.grammar.specs.LineFaults.{OneOf}
 use Rattle.grammar.specs.Units.{EplUnit, block, line, last, number, Stands}
-use Rattle.grammar.specs.WellFormed.{types2d, dataCounted, dataTyped, dataSized, wellFormedAs, wellFormed}
+use Rattle.grammar.specs.WellFormed.{dataCounted, dataTyped, dataSized, wellFormedAs, wellFormed}
 use Rattle.grammar.specs.Epl.{actOf, blockSays, acts}
 use Rattle.grammar.specs.Ranges.{sums, dataSizes, between, cornerSizes, sizesAs, sizesOf}
 use Rattle.grammar.specs.Shapes.{kindOf, placeOf, barKind, matrixKind, dataKind, kindAs, kindBy, Shape}
-use Rattle.grammar.proofs.LineFaultLaws.{any-one, faultless}
+use Rattle.grammar.proofs.LineFaultLaws.{faultless}
 use Rattle.grammar.proofs.SpanLaws.{act-yields}
 
 -- an element, if it is one, of the kind k that stands at the first two of zs
@@ -82,7 +84,7 @@ shaped-yields k x y r zs f h =
 
 -- ---- `LO`, `LW`, `LS`, `X`
 shaped-line : (s : List ℕ) (c : LineColor) (r : LabelPosition) → Shaped 0x02 (sums (number (field s 0)) (number (field s 1)) r) (lineReading s c r)
-unfolding lineReading lineElement lineFields pointAt numberAt
+unfolding lineReading lineElement lineFields pointOf
 shaped-line s c r =
     let x = number (field s 0) in let y = number (field s 1) in
     shaped-cond (ltb (length (fields s)) 4) refusal.LineFields 0x02 (sums x y r) _ (shaped-yields 0x02 x y r [] _ (λ at. (refl, refl)))
@@ -92,7 +94,7 @@ CorneredAt zs (cornered.At d) = d .position .x ∷ d .position .y ∷ [] ≡ tak
 CorneredAt zs cornered.Outside = Unit
 
 cornered-at : (c : Corners) (r : LabelPosition) → CorneredAt (between (c .first .x) (c .first .y) (c .second .x) (c .second .y) r) (drawnAt c r)
-unfolding drawnAt extentOf placed
+unfolding drawnAt placed
 cornered-at c r =
     let x = c .second .x -ℤ c .first .x in let y = c .second .y -ℤ c .first .y in
     let u = minZ (c .first .x) (c .second .x) +ℤ r .x in let v = minZ (c .first .y) (c .second .y) +ℤ r .y in
@@ -119,12 +121,12 @@ shaped-box zs t (cornered.At d) h = (refl, h)
 shaped-box zs t cornered.Outside h = tt
 
 shaped-ls : (s : List ℕ) (r : LabelPosition) → Shaped 0x03 (cornerSizes s r) (diagonalReading s r)
-unfolding diagonalReading cornersAt pointAt numberAt
+unfolding diagonalReading cornersAt pointOf
 shaped-ls s r =
     shaped-cond (ltb (length (fields s)) 5) refusal.DiagonalFields 0x03 (cornerSizes s r) _ (shaped-diagonal (cornerSizes s r) (cornersAt s .thickness) (drawnAt (cornersAt s) r) (cornered-at (cornersAt s) r))
 
 shaped-x : (s : List ℕ) (r : LabelPosition) → Shaped 0x02 (cornerSizes s r) (boxReading s r)
-unfolding boxReading cornersAt pointAt numberAt
+unfolding boxReading cornersAt pointOf
 shaped-x s r =
     shaped-cond (ltb (length (fields s)) 5) refusal.BoxFields 0x02 (cornerSizes s r) _ (shaped-box (cornerSizes s r) (cornersAt s .thickness) (drawnAt (cornersAt s) r) (cornered-at (cornersAt s) r))
 
@@ -134,75 +136,67 @@ shaped-text x y r zs f d (scaled.Font i) = shaped-yields 0x01 x y r zs _ (λ at.
 shaped-text x y r zs f d scaled.Outside = tt
 
 shaped-a : (s : List ℕ) (d : DataSpan) (r : LabelPosition) → Shaped 0x01 (dataSizes command.Text s r) (textReading s d r)
-unfolding textReading textElement textFields pointAt numberAt
+unfolding textReading textElement textFields pointOf
 shaped-a s d r =
     let f = textFields s in
     shaped-cond (ltb (length (fields s)) 7) refusal.TextFields 0x01 (dataSizes command.Text s r) _
     (shaped-text (number (field s 0)) (number (field s 1)) r _ f d (fontOf (f .font) (f .scale .«h_mult») (f .scale .«v_mult») (f .rotation)))
 
 -- ---- `B`, by its type
-bar-kind : (f : List ℕ) → OneOf types f → (b : Barcode) → Shaped (barKind f) (b .position .x ∷ b .position .y ∷ []) (barcodeElement (bars.symbologyOf f) b)
-unfolding oneLetter code128Letter twoLetters threeLetters code128 interleaved code39 ean13 ean8 upcA upcE
-bar-kind f (inl e) b = rw e (refl, refl)
-bar-kind f (inr (inl e)) b = rw e (refl, refl)
-bar-kind f (inr (inr (inl e))) b = rw e (refl, refl)
-bar-kind f (inr (inr (inr (inl e)))) b = rw e (refl, refl)
-bar-kind f (inr (inr (inr (inr (inl e))))) b = rw e (refl, refl)
-bar-kind f (inr (inr (inr (inr (inr (inl e)))))) b = rw e (refl, refl)
-bar-kind f (inr (inr (inr (inr (inr (inr (inl e))))))) b = rw e (refl, refl)
-bar-kind f (inr (inr (inr (inr (inr (inr (inr (inl e)))))))) b = rw e (refl, refl)
-bar-kind f (inr (inr (inr (inr (inr (inr (inr (inr (inl e))))))))) b = rw e (refl, refl)
-bar-kind f (inr (inr (inr (inr (inr (inr (inr (inr (inr (inl e)))))))))) b = rw e (refl, refl)
-bar-kind f (inr (inr (inr (inr (inr (inr (inr (inr (inr (inr (inl e))))))))))) b = rw e (refl, refl)
-bar-kind f (inr (inr (inr (inr (inr (inr (inr (inr (inr (inr (inr (inl e)))))))))))) b = rw e (refl, refl)
-bar-kind f (inr (inr (inr (inr (inr (inr (inr (inr (inr (inr (inr (inr (inl e))))))))))))) b = rw e (refl, refl)
-bar-kind f (inr (inr (inr (inr (inr (inr (inr (inr (inr (inr (inr (inr (inr (inl e)))))))))))))) b = rw e (refl, refl)
-bar-kind f (inr (inr (inr (inr (inr (inr (inr (inr (inr (inr (inr (inr (inr (inr (inl e))))))))))))))) b = rw e (refl, refl)
+bar-kind : (y : Symbology) (b : Barcode) → Shaped (barKind y) (b .position .x ∷ b .position .y ∷ []) (barcodeElement y b)
+unfolding code128 interleaved code39 ean13 ean8 upcA upcE
+bar-kind (Code128 m) b = (refl, refl)
+bar-kind (Interleaved c) b = (refl, refl)
+bar-kind (Code39 c) b = (refl, refl)
+bar-kind Ean13 b = (refl, refl)
+bar-kind Ean8 b = (refl, refl)
+bar-kind UpcA b = (refl, refl)
+bar-kind UpcE b = (refl, refl)
+bar-kind Unlisted b = tt
 
-shaped-bars : (f : BarcodeFields) (g : List ℕ) (x y : ℤ) (r : LabelPosition) (d : DataSpan) → f .symbology ≡ bars.symbologyOf g → OneOf types g → Shaped (barKind g) (sums x y r) (barcodePlaced f d (placed x y r))
+shaped-bars : (f : BarcodeFields) (x y : ℤ) (r : LabelPosition) (d : DataSpan) → Shaped (barKind (f .symbology)) (sums x y r) (barcodePlaced f d (placed x y r))
 unfolding placed
-shaped-bars f g x y r d e o =
+shaped-bars f x y r d =
     let a = x +ℤ r .x in let b = y +ℤ r .y in
     test (in32 a)
     (λ p. test (in32 b)
-    (λ q. simp (p, q, e) (bar-kind g o _))
+    (λ q. simp (p, q) (bar-kind (f .symbology) _))
     (λ q. simp (p, q) tt))
     (λ p. simp p tt)
 
 shaped-b : (s : List ℕ) (d : DataSpan) (r : LabelPosition) → dataTyped command.Barcode s ≡ true → Shaped (dataKind command.Barcode s) (dataSizes command.Barcode s r) (barcodeReading s d r)
-unfolding barcodeReading barcodeAt barcodeFields typeAt pointAt numberAt
+unfolding barcodeReading barcodeAt barcodeFields pointOf
 shaped-b s d r t =
-    let g = trim (field s 3) in
     let x = number (field s 0) in let y = number (field s 1) in
-    let l : isListed (bars.symbologyOf g) ≡ true = listed-is g ∙ t in
-    shaped-cond (ltb (length (fields s)) 8) refusal.BarcodeFields (barKind g) (sums x y r) _
-    (rw l (shaped-bars (barcodeFields s) g x y r d refl (any-one types g t)))
+    let l : isListed (bars.symbologyOf (trim (field s 3))) ≡ true = listed-is (trim (field s 3)) ∙ t in
+    shaped-cond (ltb (length (fields s)) 8) refusal.BarcodeFields (dataKind command.Barcode s) (sums x y r) _
+    (rw l (shaped-bars (barcodeFields s) x y r d))
 
 -- ---- `b`, by its type
 shaped-qr : (b : Bool) (zs : List ℤ) (x : Reading) → Shaped 0x0e zs x → Shaped 0x0e zs (cond b x (reading.Refused refusal.QrData))
 shaped-qr true zs x h = h
 shaped-qr false zs x h = tt
 
-matrix-kind : (f : List ℕ) → OneOf types2d f → (s t : List ℕ) (x y : ℤ) (r : LabelPosition) (d : DataSpan) → Shaped (matrixKind f) (sums x y r) (barcode2dAt (symbologyOf f) s t (placed x y r) d)
-unfolding letterOf aztecReading datamatrixReading maxicodeReading pdf417Reading qrReading
-matrix-kind f (inl e) s t x y r d = rw e (shaped-yields 0x0c x y r [] _ (λ at. (refl, refl)))
-matrix-kind f (inr (inl e)) s t x y r d = rw e (shaped-yields 0x0d x y r [] _ (λ at. (refl, refl)))
-matrix-kind f (inr (inr (inl e))) s t x y r d = rw e (shaped-yields 0x0f x y r [] _ (λ at. (refl, refl)))
-matrix-kind f (inr (inr (inr (inl e)))) s t x y r d = rw e (shaped-yields 0x0b x y r [] _ (λ at. (refl, refl)))
-matrix-kind f (inr (inr (inr (inr (inl e))))) s t x y r d = rw e (shaped-qr (leb (length (decode t)) 9999) (sums x y r) _ (shaped-yields 0x0e x y r [] _ (λ at. (refl, refl))))
+matrix-kind : (k : Symbology2d) (s t : List ℕ) (x y : ℤ) (r : LabelPosition) (d : DataSpan) → Shaped (matrixKind k) (sums x y r) (barcode2dAt k s t (placed x y r) d)
+unfolding aztecReading datamatrixReading maxicodeReading pdf417Reading qrReading
+matrix-kind two.Aztec s t x y r d = shaped-yields 0x0c x y r [] _ (λ at. (refl, refl))
+matrix-kind two.Datamatrix s t x y r d = shaped-yields 0x0d x y r [] _ (λ at. (refl, refl))
+matrix-kind two.Maxicode s t x y r d = shaped-yields 0x0f x y r [] _ (λ at. (refl, refl))
+matrix-kind two.Pdf417 s t x y r d = shaped-yields 0x0b x y r [] _ (λ at. (refl, refl))
+matrix-kind two.Qr s t x y r d = shaped-qr (leb (length (decode t)) 9999) (sums x y r) _ (shaped-yields 0x0e x y r [] _ (λ at. (refl, refl)))
+matrix-kind two.Unlisted s t x y r d = tt
 
-shaped-2d : (s t : List ℕ) (d : DataSpan) (r : LabelPosition) → dataTyped command.Barcode2d s ≡ true → Shaped (dataKind command.Barcode2d s) (dataSizes command.Barcode2d s r) (barcode2dReading s t d r)
-unfolding barcode2dReading typeAt pointAt numberAt
-shaped-2d s t d r l =
-    let f = trim (field s 2) in
+shaped-2d : (s t : List ℕ) (d : DataSpan) (r : LabelPosition) → Shaped (dataKind command.Barcode2d s) (dataSizes command.Barcode2d s r) (barcode2dReading s t d r)
+unfolding barcode2dReading
+shaped-2d s t d r =
     let x = number (field s 0) in let y = number (field s 1) in
-    shaped-cond (ltb (length (fields s)) 3) refusal.Barcode2dFields (matrixKind f) (sums x y r) _
-    (matrix-kind f (any-one types2d f l) (after 44 (after 44 (after 44 s))) t x y r d)
+    shaped-cond (ltb (length (fields s)) 3) refusal.Barcode2dFields (dataKind command.Barcode2d s) (sums x y r) _
+    (matrix-kind (symbologyOf (trim (field s 2))) (fieldsFrom 3 s) t x y r d)
 
 shaped-data : (c : DataCommand) (s t : List ℕ) (d : DataSpan) (r : LabelPosition) → dataTyped c s ≡ true → Shaped (dataKind c s) (dataSizes c s r) (withData c s t d r)
 shaped-data command.Text s t d r l = shaped-a s d r
 shaped-data command.Barcode s t d r l = shaped-b s d r l
-shaped-data command.Barcode2d s t d r l = shaped-2d s t d r l
+shaped-data command.Barcode2d s t d r l = shaped-2d s t d r
 
 -- ---- a line, a unit
 shaped-command : (c : Command) (lead : ℕ) (t : List ℕ) (r : LabelPosition) → wellFormedAs c t ≡ true → Shaped (kindAs c t) (sizesAs c t r) (commandReading c lead t r)

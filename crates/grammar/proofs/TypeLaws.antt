@@ -1,18 +1,17 @@
 -- The type of `b`, as the reader tells it: 01's list, and which of it is QR.
 -- Assumes nothing.
 use mathlib.Core.Path.{_≡_, refl}
-use mathlib.Core.Bool.{Bool, true, false, and-false}
-use mathlib.Core.List.{List, [], _∷_}
+use mathlib.Core.Bool.{Bool, true, false}
+use mathlib.Core.List.{List}
 use Prim.Native.Nat.{ℕ}
-use lib.Dec.{eqb}
-use borrow.Author.Tests.{eqb-true}
+use Rattle.text.specs.Ascii.{ascii}
 use Rattle.text.specs.Fields.{same}
+use Rattle.text.specs.Table.{anyOf}
 use Rattle.text.proofs.BoolLaws.{test}
-use Rattle.barcodes.specs.Barcode.{anyOf}
+use Rattle.text.proofs.FieldsLaws.{same-true}
 use Rattle.barcodes_2d.specs.declared.barcode_2d.Symbology2d.{Symbology2d}
 use Rattle.barcodes_2d.specs.declared.barcode_2d.Symbology2d.the-variants.{Aztec, Datamatrix, Maxicode, Pdf417, Qr, Unlisted}
-use Rattle.barcodes_2d.specs.Barcode2d.{letterOf, symbologyOf}
-use Rattle.grammar.specs.WellFormed.{types2d}
+use Rattle.barcodes_2d.specs.Barcode2d.{types2d, symbologyOf}
 
 abbrev pub isListed2d : Symbology2d → Bool
 isListed2d Aztec = true
@@ -31,20 +30,18 @@ isQr Qr = true
 isQr Unlisted = false
 
 abbrev Typed : List ℕ → Type 0
-Typed t = (isListed2d (symbologyOf t) ≡ anyOf types2d t) × (isQr (symbologyOf t) ≡ same t (0x51 ∷ []))
+Typed t = (isListed2d (symbologyOf t) ≡ anyOf types2d t) × (isQr (symbologyOf t) ≡ same t (ascii "Q"))
 
--- of n, or of another letter
-or-else : (n a : ℕ) → Typed (n ∷ []) → (eqb a n ≡ false → Typed (a ∷ [])) → Typed (a ∷ [])
-or-else n a h go = test (eqb a n) (λ e. rw (eqb-true a n e) h) go
+-- of x, or of another text
+or-else : (x t : List ℕ) → Typed x → (same t x ≡ false → Typed t) → Typed t
+or-else x t h go = test (same t x) (λ e. rw (same-true t x e) h) go
 
 pub typed-2d : (t : List ℕ) → Typed t
-unfolding letterOf
-typed-2d [] = (refl, refl)
-typed-2d (a ∷ []) =
-    or-else 0x41 a (refl, refl) λ h.
-    or-else 0x44 a (refl, refl) λ i.
-    or-else 0x4d a (refl, refl) λ j.
-    or-else 0x50 a (refl, refl) λ k.
-    or-else 0x51 a (refl, refl) λ l.
+unfolding symbologyOf
+typed-2d t =
+    or-else (ascii "A") t (refl, refl) λ h.
+    or-else (ascii "D") t (refl, refl) λ i.
+    or-else (ascii "M") t (refl, refl) λ j.
+    or-else (ascii "P") t (refl, refl) λ k.
+    or-else (ascii "Q") t (refl, refl) λ l.
     (simp (h, i, j, k, l), simp (h, i, j, k, l))
-typed-2d (a ∷ b ∷ t) = (simp and-false, simp and-false)

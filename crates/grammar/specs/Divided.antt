@@ -1,4 +1,5 @@
--- The labels of a division, and the earliest refused unit (01, "For demand 3"), from the roles of units, their numbers, the reference and the faults.
+-- The labels of a division, and the earliest refused unit (01, "For demand 3"), from the roles of units, their
+-- numbers, the reference and the faults.
 use mathlib.Core.Path.{_≡_}
 use mathlib.Core.List.{List, [], _∷_, _++_}
 use Prim.Native.Nat.{ℕ, _+_}
@@ -22,7 +23,8 @@ module _ {F : Type 0} (frame : List ℕ → LabelElement → F) where
   yieldedBy u (print q) = []
   yieldedBy u (outside n) = []
 
-  -- "an element that the unit yields becomes pending; `N` drops what is pending; a print line .. prints it .. and nothing is then pending"
+  -- "an element that the unit yields becomes pending; `N` drops what is pending; a print line .. prints it .. and
+  -- nothing is then pending"
   abbrev pub pendingAfter : Role → List F → List F → List F
   pendingAfter passes p f = p
   pendingAfter clears p f = []
@@ -39,12 +41,15 @@ module _ {F : Type 0} (frame : List ℕ → LabelElement → F) where
   -- "go unit by unit", from the reference r with p pending
   abbrev pub labelsBy : LabelPosition → List F → List EplUnit → List (Label F Unit)
   labelsBy r p [] = flush tt p
-  labelsBy r p (u ∷ us) = printedBy (roleOf u) p ++ labelsBy (refAfter r u) (pendingAfter (roleOf u) p (yieldedBy u (acts r u))) us
+  labelsBy r p (u ∷ us) =
+      printedBy (roleOf u) p ++ labelsBy (refAfter r u) (pendingAfter (roleOf u) p (yieldedBy u (acts r u))) us
 
--- "the earliest refused line" of s, which stands at a place with the reference r: number and place; at fault as it stands, or with a number outside 32 bits,
--- every unit before it being neither
+-- "the earliest refused line" of s, which stands at a place with the reference r: number and place; at fault as it
+-- stands, or with a number outside 32 bits, every unit before it being neither
 pub data Earliest : List ℕ → ℕ → LabelPosition → ℕ → ℕ → Type 0 where
   faulty : {s : List ℕ} {at : ℕ} {r : LabelPosition} {n : ℕ} → Fault s n → Earliest s at r n at
-  beyond : (u : EplUnit) (rest : List ℕ) {s : List ℕ} {at : ℕ} {r : LabelPosition} → s ≡ bytes u ++ rest → Stands u rest → OneOut (sizesOf r u) → Earliest s at r 13 at
+  beyond : (u : EplUnit) (rest : List ℕ) {s : List ℕ} {at : ℕ} {r : LabelPosition}
+      → s ≡ bytes u ++ rest → Stands u rest → OneOut (sizesOf r u) → Earliest s at r 13 at
   later : (u : EplUnit) (rest : List ℕ) {s : List ℕ} {at : ℕ} {r : LabelPosition} {n q : ℕ}
-      → s ≡ bytes u ++ rest → Stands u rest → AllFit (sizesOf r u) → Earliest rest (at + length (bytes u)) (refAfter r u) n q → Earliest s at r n q
+      → s ≡ bytes u ++ rest → Stands u rest → AllFit (sizesOf r u)
+      → Earliest rest (at + length (bytes u)) (refAfter r u) n q → Earliest s at r n q

@@ -38,7 +38,12 @@ actOf r (reading.Refused n) = outside (numberOf n)
 abbrev pub blockSays : List ℕ → Header → List ℕ → LabelPosition → Reading
 blockSays bs h p r =
     yields (placed (number (h .x)) (number (h .y)) r) λ at.
-    element.GraphicField (record { position = at; «row_bytes» = number (h .width); «data» = record { start = length (bs ++ gw h []); len = length p } })
+    element.GraphicField
+    (record {
+      position = at;
+      «row_bytes» = number (h .width);
+      «data» = record { start = length (bs ++ gw h []); len = length p };
+    })
 
 abbrev pub acts : LabelPosition → EplUnit → EplAct
 acts r (block bs h p) = actOf r (blockSays bs h p r)
@@ -46,4 +51,16 @@ acts r (line t) = actOf r (readLine t r)
 acts r (last t) = actOf r (readLine t r)
 
 abbrev pub epl : Language
-epl = record { U = EplUnit; R = LabelPosition; E = LabelElement; P = Unit; bytes = bytes; Stands = Stands; first = first; act = acts; shifted = shifted; closing = tt }
+epl =
+    record {
+      U = EplUnit;
+      R = LabelPosition;
+      E = LabelElement;
+      P = Unit;
+      bytes = bytes;
+      Stands = Stands;
+      first = first;
+      act = acts;
+      shifted = shifted;
+      closing = tt;
+    }

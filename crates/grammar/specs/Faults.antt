@@ -1,4 +1,5 @@
--- What is wrong with what stands first in a string, and its number (01, "Who causes which number"). Nothing here speaks of how it is found.
+-- What is wrong with what stands first in a string, and its number (01, "Who causes which number"). Nothing here
+-- speaks of how it is found.
 use mathlib.Core.Path.{_≡_}
 use mathlib.Core.Bool.{cond}
 use mathlib.Core.List.{List, [], _∷_, _++_}
@@ -46,8 +47,10 @@ pub data Fault (s : List ℕ) : ℕ → Type 0 where
   -- "10 fewer than four commas" before an LF or the end
   few-commas : {t : List ℕ} (o : Opens s) → FirstLine (o .header) t → commas t < 4 → Fault s 10
   -- "11 negative"
-  negative : {h : Header} {q : List ℕ} → Headed s h q → Negative (number (h .width)) ⊎ Negative (number (h .lines)) → Fault s 11
+  negative : {h : Header} {q : List ℕ}
+      → Headed s h q → Negative (number (h .width)) ⊎ Negative (number (h .lines)) → Fault s 11
   -- "12 payload passes the end"
-  past-end : {h : Header} {q : List ℕ} {w l : ℕ} → Headed s h q → number (h .width) ≡ pos w → number (h .lines) ≡ pos l → length q < w * l → Fault s 12
+  past-end : {h : Header} {q : List ℕ} {w l : ℕ}
+      → Headed s h q → number (h .width) ≡ pos w → number (h .lines) ≡ pos l → length q < w * l → Fault s 12
   -- a command line that is not well formed
   ill-formed : {t : List ℕ} {n : ℕ} → FirstLine s t → (Opens t → ⊥) → LineFault (trim t) n → Fault s n

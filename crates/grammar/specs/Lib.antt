@@ -1,6 +1,5 @@
--- characters for bytes
-pub mod Ascii
--- 01, "Grammar", apart from how it is read: the letters of each command; what is wrong with a line; graphic blocks and command lines
+-- 01, "Grammar", apart from how it is read: the letters of each command; what is wrong with a line; graphic blocks
+-- and command lines
 pub mod Spelled
 pub mod LineFaults
 pub mod Units

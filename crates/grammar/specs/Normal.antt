@@ -16,7 +16,8 @@ abbrev pub kept : List ℕ → List EplUnit
 kept [] = []
 kept (b ∷ t) = line (b ∷ t) ∷ []
 
--- "a command line loses the ASCII blanks at its ends"; "every block, copied whole, is followed by one LF", which then reads as an empty line
+-- "a command line loses the ASCII blanks at its ends"; "every block, copied whole, is followed by one LF", which then
+-- reads as an empty line
 abbrev pub normal : EplUnit → List EplUnit
 normal (block bs h p) = block bs h p ∷ line [] ∷ []
 normal (line t) = kept (trimAscii t)

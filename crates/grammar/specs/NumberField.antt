@@ -2,6 +2,7 @@
 use mathlib.Core.List.{List, [], _∷_}
 use Prim.Native.Nat.{ℕ, _+_, _-_, _*_}
 use lib.IntN.{ℤ, pos, negℤ}
+use Rattle.text.specs.Ascii.{spelt}
 use Rattle.text.specs.Blank.{trim}
 use Rattle.grammar.specs.Spelled.{Digits}
 use Rattle.grammar.specs.Ranges.{Signed32}
@@ -14,10 +15,11 @@ decimal n (b ∷ s) = decimal (n * 10 + (b - 48)) s
 -- "an optional sign and at least one digit"
 pub data Writes : List ℕ → ℤ → Type 0 where
   unsigned : {b : ℕ} {s : List ℕ} → Digits (b ∷ s) → Writes (b ∷ s) (pos (decimal 0 (b ∷ s)))
-  plus : {b : ℕ} {s : List ℕ} → Digits (b ∷ s) → Writes (43 ∷ b ∷ s) (pos (decimal 0 (b ∷ s)))
-  minus : {b : ℕ} {s : List ℕ} → Digits (b ∷ s) → Writes (45 ∷ b ∷ s) (negℤ (pos (decimal 0 (b ∷ s))))
+  plus : {b : ℕ} {s : List ℕ} → Digits (b ∷ s) → Writes (spelt "+" (b ∷ s)) (pos (decimal 0 (b ∷ s)))
+  minus : {b : ℕ} {s : List ℕ} → Digits (b ∷ s) → Writes (spelt "-" (b ∷ s)) (negℤ (pos (decimal 0 (b ∷ s))))
 
--- "A number field, Unicode blanks off, is an optional sign and at least one digit, within signed 32 bits, else its default"
+-- "A number field, Unicode blanks off, is an optional sign and at least one digit, within signed 32 bits, else its
+-- default"
 pub data NumberField (d : ℤ) (f : List ℕ) : ℤ → Type 0 where
   given : {z : ℤ} → Writes (trim f) z → Signed32 z → NumberField d f z
   default : ((z : ℤ) → Writes (trim f) z → Signed32 z → ⊥) → NumberField d f d

@@ -1,4 +1,5 @@
--- "every position and size within signed 32 bits" (01, "For demand 3"), from the fields of a unit and the reference alone. Nothing here speaks of a reader.
+-- "every position and size within signed 32 bits" (01, "For demand 3"), from the fields of a unit and the reference
+-- alone. Nothing here speaks of a reader.
 use mathlib.Core.Path.{_≡_}
 use mathlib.Core.Bool.{cond}
 use mathlib.Core.List.{List, [], _∷_, _++_}
@@ -9,12 +10,14 @@ use lib.IntN.{ℤ, pos, negsuc, _+ℤ_, _-ℤ_, _*ℤ_}
 use lib.ListN.{drop}
 use Rattle.text.specs.Blank.{trim}
 use Rattle.text.specs.Fields.{field}
-use Rattle.numbers.specs.Int.{minZ, maxZ, absZ, eqZ}
+use Rattle.numbers.specs.Int.{minZ, absZ, eqZ}
 use Rattle.numbers.specs.Number.{fieldOr}
 use Rattle.elements.specs.declared.LabelElement.{LabelElement}
 use Rattle.elements.specs.declared.LabelPosition.{LabelPosition}
+use Rattle.parameters.specs.FieldValues.{sizeOr}
 use Rattle.spelling.specs.declared.command.Command.{Command}
-use Rattle.spelling.specs.declared.command.Command.the-variants.{Clear, Reference, Data, Line, Diagonal, Box, Print, Other}
+use Rattle.spelling.specs.declared.command.Command.the-variants.{Clear, Reference, Data, Line, Diagonal, Box, Print}
+use Rattle.spelling.specs.declared.command.Command.the-variants.{Other}
 use Rattle.spelling.specs.declared.command.DataCommand.{DataCommand}
 use Rattle.spelling.specs.declared.command.DataCommand.the-variants.{Text, Barcode, Barcode2d}
 use Rattle.spelling.specs.Command.{commandOf}
@@ -52,32 +55,30 @@ cell n go =
     (cond (eqZ n (pos 5)) (go (pos 32) (pos 48))
     (go (pos 8) (pos 12)))))
 
--- "Text height is font height times vertical multiplier; width equals height if the multipliers are equal, else height × (horizontal × font width) / height"
+-- "Text height is font height times vertical multiplier; width equals height if the multipliers are equal, else
+-- height × (horizontal × font width) / height"
 abbrev pub products : ℤ → ℤ → ℤ → List ℤ
 products n h v = cell n λ width height. (height *ℤ v) ∷ cond (eqZ h v) [] ((h *ℤ width) ∷ [])
 
--- a field's number: "1 for font, multipliers, ..", "Least value 1 for multipliers, .."
-abbrev pub one : List ℕ → ℤ
-one f = fieldOr (pos 1) f
-
-abbrev pub multiplier : List ℕ → ℤ
-multiplier f = maxZ (one f) (pos 1)
-
 -- "`A`: x, y, rotation, font, horizontal multiplier, vertical multiplier, .."; "`B`: x, y, .."; "`b`: x, y, .."
 abbrev pub dataSizes : DataCommand → List ℕ → LabelPosition → List ℤ
-dataSizes Text s r = sums (number (field s 0)) (number (field s 1)) r ++ products (one (field s 3)) (multiplier (field s 4)) (multiplier (field s 5))
+dataSizes Text s r =
+    sums (number (field s 0)) (number (field s 1)) r
+    ++ products (fieldOr (pos 1) (field s 3)) (sizeOr (pos 1) (field s 4)) (sizeOr (pos 1) (field s 5))
 dataSizes Barcode s r = sums (number (field s 0)) (number (field s 1)) r
 dataSizes Barcode2d s r = sums (number (field s 0)) (number (field s 1)) r
 
 -- "the position is the smaller of each pair, width and height are the absolute differences"
 abbrev pub between : ℤ → ℤ → ℤ → ℤ → LabelPosition → List ℤ
-between x1 y1 x2 y2 r = sums (minZ x1 x2) (minZ y1 y2) r ++ ((x2 -ℤ x1) ∷ (y2 -ℤ y1) ∷ absZ (x2 -ℤ x1) ∷ absZ (y2 -ℤ y1) ∷ [])
+between x1 y1 x2 y2 r =
+    sums (minZ x1 x2) (minZ y1 y2) r
+    ++ ((x2 -ℤ x1) ∷ (y2 -ℤ y1) ∷ absZ (x2 -ℤ x1) ∷ absZ (y2 -ℤ y1) ∷ [])
 
 -- "`LS` and `X` (black): x1, y1, thickness, x2, y2"
 abbrev pub cornerSizes : List ℕ → LabelPosition → List ℤ
 cornerSizes s r = between (number (field s 0)) (number (field s 1)) (number (field s 3)) (number (field s 4)) r
 
--- of a line t that spells c
+-- the numbers that must fit for a line t that spells c, at the reference r
 abbrev pub sizesAs : Command → List ℕ → LabelPosition → List ℤ
 -- "Fewer than two quotes, or no data: nothing is read"
 sizesAs (Data c) t r = cond (isRead t) (dataSizes c (paramsOf t) r) []
@@ -122,7 +123,8 @@ abbrev pub InRange : LabelPosition → List EplUnit → Type 0
 InRange r [] = Unit
 InRange r (u ∷ us) = AllFit (sizesOf r u) × InRange (refAfter r u) us
 
--- what a unit does: "an element that the unit yields becomes pending; `N` drops what is pending; a print line .. prints it"
+-- what a unit does: "an element that the unit yields becomes pending; `N` drops what is pending; a print line ..
+-- prints it"
 pub data Role : Type 0 where
   passes : Role
   clears : Role
@@ -144,7 +146,8 @@ roleOf (block bs h p) = yields
 roleOf (line t) = roleAs (commandOf (trim t)) (trim t)
 roleOf (last t) = roleAs (commandOf (trim t)) (trim t)
 
--- an act of that role at the reference r, after which the reference is q: it is kept where an element is yielded or a label printed
+-- an act of a role at the reference r, after which the reference is q: it is kept where an element is yielded or a
+-- label printed
 abbrev pub Does : Role → LabelPosition → LabelPosition → EplAct → Type 0
 Does passes r q a = a ≡ keep q
 Does clears r q a = a ≡ clear q

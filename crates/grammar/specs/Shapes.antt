@@ -1,26 +1,33 @@
--- The kind of the element that a unit yields, and where it stands (01, "Grammar" and "Frames"), from the command that is spelled, its fields and the reference.
+-- The kind of the element that a unit yields, and where it stands (01, "Grammar" and "Frames"), from the command that
+-- is spelled, its fields and the reference.
 use mathlib.Core.Path.{_≡_}
-use mathlib.Core.Bool.{cond}
 use mathlib.Core.List.{List, [], _∷_}
 use Prim.Native.Nat.{ℕ}
 use lib.ListN.{take}
 use Rattle.text.specs.Blank.{trim}
-use Rattle.text.specs.Fields.{field, same}
+use Rattle.text.specs.Fields.{field}
 use Rattle.elements.specs.declared.LabelElement.{LabelElement}
 use Rattle.elements.specs.declared.LabelElement.the-variants as element
 use Rattle.elements.specs.declared.LabelPosition.{LabelPosition}
 use Rattle.spelling.specs.declared.command.Command.{Command}
-use Rattle.spelling.specs.declared.command.Command.the-variants.{Clear, Reference, Data, Line, Diagonal, Box, Print, Other}
+use Rattle.spelling.specs.declared.command.Command.the-variants.{Clear, Reference, Data, Line, Diagonal, Box, Print}
+use Rattle.spelling.specs.declared.command.Command.the-variants.{Other}
 use Rattle.spelling.specs.declared.command.DataCommand.{DataCommand}
 use Rattle.spelling.specs.declared.command.DataCommand.the-variants.{Text, Barcode, Barcode2d}
 use Rattle.spelling.specs.Command.{commandOf}
-use Rattle.barcodes.specs.Barcode.{anyOf}
+use Rattle.barcodes.specs.declared.barcode.Symbology.{Symbology}
+use Rattle.barcodes.specs.declared.barcode.Symbology.the-variants.{Code128, Interleaved, Code39, Ean13, Ean8, UpcA}
+use Rattle.barcodes.specs.declared.barcode.Symbology.the-variants.{UpcE, Unlisted}
+use Rattle.barcodes.specs.Barcode as bars
+use Rattle.barcodes_2d.specs.declared.barcode_2d.Symbology2d.{Symbology2d}
+use Rattle.barcodes_2d.specs.declared.barcode_2d.Symbology2d.the-variants as two
+use Rattle.barcodes_2d.specs.Barcode2d.{symbologyOf}
 use Rattle.commands.specs.Line.{paramsOf}
 use Rattle.grammar.specs.Units.{EplUnit, block, line, last}
 use Rattle.grammar.specs.Ranges.{sizesOf}
 
--- "01 text", "02 box", "03 diagonal", "04 graphic", "05 Code 128", "06 EAN-13, 07 EAN-8, 08 UPC-A, 10 UPC-E", "09 2 of 5, 0a Code 39", "0b PDF417",
--- "0c Aztec", "0d Data Matrix", "0e QR", "0f MaxiCode"
+-- "01 text", "02 box", "03 diagonal", "04 graphic", "05 Code 128", "06 EAN-13, 07 EAN-8, 08 UPC-A, 10 UPC-E", "09 2
+-- of 5, 0a Code 39", "0b PDF417", "0c Aztec", "0d Data Matrix", "0e QR", "0f MaxiCode"
 abbrev pub kindOf : LabelElement → ℕ
 kindOf (element.Text e) = 0x01
 kindOf (element.GraphicBox e) = 0x02
@@ -39,6 +46,7 @@ kindOf (element.BarcodeQr e) = 0x0e
 kindOf (element.Maxicode e) = 0x0f
 kindOf (element.BarcodeUcpe e) = 0x10
 
+-- where an element stands
 abbrev pub placeOf : LabelElement → LabelPosition
 placeOf (element.Text e) = e .position
 placeOf (element.GraphicBox e) = e .position
@@ -57,31 +65,33 @@ placeOf (element.BarcodeQr e) = e .position
 placeOf (element.Maxicode e) = e .position
 placeOf (element.BarcodeUcpe e) = e .position
 
--- "`0` is Code 128 .., `1E` .., `1`, `1A`, `1B`, `1C` ..; `2` is 2 of 5 .., `2C` and `2D` ..; `3` is Code 39 .., `3C` ..; `E30` EAN-13, `E80` EAN-8, `UA0` UPC-A,
--- `UE0` UPC-E"
-abbrev pub barKind : List ℕ → ℕ
-barKind f =
-    cond (anyOf ((0x30 ∷ []) ∷ (0x31 ∷ 0x45 ∷ []) ∷ (0x31 ∷ []) ∷ (0x31 ∷ 0x41 ∷ []) ∷ (0x31 ∷ 0x42 ∷ []) ∷ (0x31 ∷ 0x43 ∷ []) ∷ []) f) 0x05
-    (cond (anyOf ((0x32 ∷ []) ∷ (0x32 ∷ 0x43 ∷ []) ∷ (0x32 ∷ 0x44 ∷ []) ∷ []) f) 0x09
-    (cond (anyOf ((0x33 ∷ []) ∷ (0x33 ∷ 0x43 ∷ []) ∷ []) f) 0x0a
-    (cond (same f (0x45 ∷ 0x33 ∷ 0x30 ∷ [])) 0x06
-    (cond (same f (0x45 ∷ 0x38 ∷ 0x30 ∷ [])) 0x07
-    (cond (same f (0x55 ∷ 0x41 ∷ 0x30 ∷ [])) 0x08 0x10)))))
+-- "05 Code 128", "06 EAN-13, 07 EAN-8, 08 UPC-A, 10 UPC-E", "09 2 of 5, 0a Code 39", by the type of `B`
+abbrev pub barKind : Symbology → ℕ
+barKind (Code128 m) = 0x05
+barKind Ean13 = 0x06
+barKind Ean8 = 0x07
+barKind UpcA = 0x08
+barKind (Interleaved c) = 0x09
+barKind (Code39 c) = 0x0a
+barKind UpcE = 0x10
+barKind Unlisted = 0
 
--- "`A` Aztec, `D` Data Matrix, `M` MaxiCode, `P` PDF417, `Q` QR"
-abbrev pub matrixKind : List ℕ → ℕ
-matrixKind f =
-    cond (same f (0x41 ∷ [])) 0x0c
-    (cond (same f (0x44 ∷ [])) 0x0d
-    (cond (same f (0x4d ∷ [])) 0x0f
-    (cond (same f (0x50 ∷ [])) 0x0b 0x0e)))
+-- "0b PDF417", "0c Aztec", "0d Data Matrix", "0e QR", "0f MaxiCode", by the type of `b`
+abbrev pub matrixKind : Symbology2d → ℕ
+matrixKind two.Pdf417 = 0x0b
+matrixKind two.Aztec = 0x0c
+matrixKind two.Datamatrix = 0x0d
+matrixKind two.Qr = 0x0e
+matrixKind two.Maxicode = 0x0f
+matrixKind two.Unlisted = 0
 
 -- the type is the "fourth field of `B`", the "third of `b`", "blanks off"
 abbrev pub dataKind : DataCommand → List ℕ → ℕ
 dataKind Text s = 0x01
-dataKind Barcode s = barKind (trim (field s 3))
-dataKind Barcode2d s = matrixKind (trim (field s 2))
+dataKind Barcode s = barKind (bars.symbologyOf (trim (field s 3)))
+dataKind Barcode2d s = matrixKind (symbologyOf (trim (field s 2)))
 
+-- the kind of what a line t yields that spells c, 0 where it yields nothing
 abbrev pub kindAs : Command → List ℕ → ℕ
 kindAs (Data c) t = dataKind c (paramsOf t)
 kindAs (Line c) t = 0x02
@@ -92,12 +102,14 @@ kindAs Reference t = 0
 kindAs Print t = 0
 kindAs Other t = 0
 
+-- the kind of what a unit yields
 abbrev pub kindBy : EplUnit → ℕ
 kindBy (block bs h p) = 0x04
 kindBy (line t) = kindAs (commandOf (trim t)) (trim t)
 kindBy (last t) = kindAs (commandOf (trim t)) (trim t)
 
--- the element e is of the kind that u's command has, and stands where the sums of u's numbers say, which are the first two of `sizesOf`
+-- the element e is of the kind that u's command has, and stands where the sums of u's numbers say, which are the
+-- first two of `sizesOf`
 pub record Shape (r : LabelPosition) (u : EplUnit) (e : LabelElement) : Type 0 where
   pub kind : kindOf e ≡ kindBy u
   pub place : placeOf e .x ∷ placeOf e .y ∷ [] ≡ take 2 (sizesOf r u)

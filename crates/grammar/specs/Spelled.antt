@@ -1,15 +1,17 @@
--- Which command a line spells, its blanks off, by its letters (01, "Grammar"). Nothing here speaks of how it is told: `commandOf` is proved to tell it.
+-- Which command a line spells, its blanks off, by its letters (01, "Grammar"). Nothing here speaks of how it is told:
+-- `commandOf` is proved to tell it.
 use mathlib.Core.List.{List, [], _∷_}
 use Prim.Native.Nat.{ℕ, _≤_}
 use Rattle.elements.specs.declared.LineColor.the-variants.{Black, White}
 use Rattle.spelling.specs.declared.command.Command.{Command}
-use Rattle.spelling.specs.declared.command.Command.the-variants.{Clear, Reference, Data, Line, Diagonal, Box, Print, Other}
+use Rattle.spelling.specs.declared.command.Command.the-variants.{Clear, Reference, Data, Line, Diagonal, Box, Print}
+use Rattle.spelling.specs.declared.command.Command.the-variants.{Other}
 use Rattle.spelling.specs.declared.command.DataCommand.the-variants.{Text, Barcode, Barcode2d}
-use Rattle.grammar.specs.Ascii.{ascii, spelt}
+use Rattle.text.specs.Ascii.{ascii, letter, spelt}
 
 -- 0 to 9
 abbrev pub Digit : ℕ → Type 0
-Digit b = (48 ≤ b) × (b ≤ 57)
+Digit b = (letter "0" ≤ b) × (b ≤ letter "9")
 
 abbrev pub Digits : List ℕ → Type 0
 Digits [] = Unit

@@ -9,7 +9,7 @@ use lib.ListN.{length}
 use Rattle.text.specs.Blank.{trim}
 use Rattle.numbers.specs.Number.{fieldOr}
 use Rattle.graphics.specs.Block.{isLineBlank, inField}
-use Rattle.grammar.specs.Ascii.{spelt}
+use Rattle.text.specs.Ascii.{spelt}
 use Rattle.grammar.specs.LineFaults.{LineFault}
 
 -- the four fields of a graphic block, as they stand between the commas
@@ -19,7 +19,8 @@ pub record Header : Type 0 where
   pub width : List ℕ
   pub lines : List ℕ
 
--- a graphic block: its blanks, its fields, its payload; a command line that LF ends, without that LF; one that the end of input ends
+-- a graphic block: its blanks, its fields, its payload; a command line that LF ends, without that LF; one that the
+-- end of input ends
 pub data EplUnit : Type 0 where
   block : List ℕ → Header → List ℕ → EplUnit
   line : List ℕ → EplUnit

@@ -1,27 +1,27 @@
 -- Well-formed command lines (01, "Grammar"), stated on the command that a line spells, its blanks off.
 use Prim.Native.Nat.{ℕ}
 use mathlib.Core.Bool.{Bool, true, false, cond, not, _&&_, _||_}
-use mathlib.Core.List.{List, [], _∷_}
+use mathlib.Core.List.{List}
 use lib.Dec.{eqb, leb}
 use lib.ListN.{length, drop}
+use Rattle.text.specs.Ascii.{ascii}
 use Rattle.text.specs.Blank.{trim}
 use Rattle.text.specs.Fields.{fields, field, quoted, same}
+use Rattle.text.specs.Table.{anyOf}
 use Rattle.text.specs.Utf8.{decode}
 use Rattle.spelling.specs.declared.command.Command.{Command}
-use Rattle.spelling.specs.declared.command.Command.the-variants.{Clear, Reference, Data, Line, Diagonal, Box, Print, Other}
+use Rattle.spelling.specs.declared.command.Command.the-variants.{Clear, Reference, Data, Line, Diagonal, Box, Print}
+use Rattle.spelling.specs.declared.command.Command.the-variants.{Other}
 use Rattle.spelling.specs.declared.command.DataCommand.{DataCommand}
 use Rattle.spelling.specs.declared.command.DataCommand.the-variants.{Text, Barcode, Barcode2d}
 use Rattle.spelling.specs.Command.{commandOf}
-use Rattle.barcodes.specs.Barcode.{types, anyOf}
+use Rattle.barcodes.specs.Barcode.{types}
+use Rattle.barcodes_2d.specs.Barcode2d.{types2d}
 use Rattle.commands.specs.Line.{paramsOf}
 
 -- at least n fields
 abbrev pub atLeast : ℕ → List ℕ → Bool
 atLeast n s = leb n (length (fields s))
-
--- "third of `b` `A D M P Q`"
-abbrev pub types2d : List (List ℕ)
-types2d = (0x41 ∷ []) ∷ (0x44 ∷ []) ∷ (0x4d ∷ []) ∷ (0x50 ∷ []) ∷ (0x51 ∷ []) ∷ []
 
 -- "Fewer than two quotes, or no data: nothing is read"
 abbrev pub isRead : List ℕ → Bool
@@ -43,9 +43,9 @@ dataTyped Barcode2d s = anyOf types2d (trim (field s 2))
 abbrev pub dataSized : DataCommand → List ℕ → List ℕ → Bool
 dataSized Text s d = true
 dataSized Barcode s d = true
-dataSized Barcode2d s d = not (same (trim (field s 2)) (0x51 ∷ [])) || leb (length (decode d)) 9999
+dataSized Barcode2d s d = not (same (trim (field s 2)) (ascii "Q")) || leb (length (decode d)) 9999
 
--- the fields, the type and the data of a line t that spells c
+-- the fields of a line t that spells c
 abbrev pub counted : Command → List ℕ → Bool
 counted Clear t = true
 counted Reference t = true
@@ -57,6 +57,7 @@ counted Box t = atLeast 5 (drop 1 t)
 counted Print t = true
 counted Other t = true
 
+-- the type of a line t that spells c
 abbrev pub typed : Command → List ℕ → Bool
 typed (Data c) t = dataTyped c (paramsOf t)
 typed Clear t = true
@@ -67,6 +68,7 @@ typed Box t = true
 typed Print t = true
 typed Other t = true
 
+-- the data of a line t that spells c
 abbrev pub sized : Command → List ℕ → Bool
 sized (Data c) t = dataSized c (paramsOf t) (quoted t)
 sized Clear t = true

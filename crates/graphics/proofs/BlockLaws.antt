@@ -67,7 +67,7 @@ module _ (t : List ℕ) (i : ℕ) (w : Within t i) where
 
 -- the header field at a place
 
--- it holds no comma
+-- a header field holds no comma
 index-front : (u : List ℕ) → indexOf 44 (front inField u) ≡ length (front inField u)
 index-front [] = refl
 index-front (b ∷ u) =

@@ -32,7 +32,7 @@ use Rattle.whole.specs.Step.{State, Answer, element, cleared, ended, refused, l
 use Rattle.whole.specs.Reach.{Final, accepted, refusal}
 use Rattle.whole.specs.Trace.{listed}
 use Rattle.whole.specs.Normal.{each}
-use Rattle.grammar.specs.Ascii.{spelt}
+use Rattle.text.specs.Ascii.{spelt}
 use Rattle.grammar.specs.WellFormed.{wellFormed, faultOf}
 use Rattle.grammar.specs.Units.{Header, EplUnit, block, line, last, Stands}
 use Rattle.grammar.specs.Found.{first}

@@ -8,7 +8,7 @@ use Prim.Native.Nat.{ℕ}
 use Prim.Native.String.{String}
 use Prim.Native.String as string
 use lib.Dec.{eqb}
-use Rattle.grammar.specs.Ascii.{ascii, spelt}
+use Rattle.text.specs.Ascii.{ascii, spelt}
 use Rattle.laddertick.specs.Table.{Case, lists}
 
 -- the characters of a text without its blanks, and then t

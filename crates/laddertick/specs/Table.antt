@@ -10,7 +10,7 @@ use Rattle.elements.specs.Walk as walk
 use Rattle.whole.specs.Given.{text}
 use Rattle.whole.specs.Step.{State, Answer, element, cleared, printed, ended, refused, step}
 use Rattle.whole.specs.Trace.{left}
-use Rattle.grammar.specs.Ascii.{ascii}
+use Rattle.text.specs.Ascii.{ascii}
 use Rattle.grammar.specs.Epl.{epl}
 use Rattle.grammar.specs.Normal.{normalised}
 use Rattle.walk.specs.Steps as steps

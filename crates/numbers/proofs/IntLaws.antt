@@ -13,7 +13,7 @@ use mir.Val.{SFits, ofZ, toZ}
 use mir.Facts.{toZ-ofZ}
 use borrow.Author.Tests.{ltb-true, ltb-false, lt-ltb, le-ltb, eq-eqb, ne-eqb, eqb-true, eqb-false}
 use Rattle.numbers.specs.Int.{in32, checked, eqZ}
-use Rattle.numbers.specs.declared.int.Checked.the-variants.{Fits, Outside}
+use Rattle.numbers.specs.declared.int.Checked.the-variants.{Fits}
 
 -- a number read back from its bits, by what a call says of its range
 pub back32 : (z : ℤ) → mag z < 2147483648 → toZ w32 (ofZ w32 z) ≡ z
@@ -78,20 +78,6 @@ mid (negsuc n) e f = lt-ltb n 2147483648 (omega (arith, ltb-false 2147483647 n e
 
 pub checked-in : (z : ℤ) → mag z < 2147483648 → checked z ≡ Fits z
 checked-in z h = simp (lt-ltb (mag z) 2147483648 h)
-
-fits-by : (t : Bool) (z v : ℤ) → in32 z ≡ t → cond t (Fits z) Outside ≡ Fits v → (v ≡ z) × (mag z < 2147483648)
-fits-by true z v e h = (cc, ltb-true (mag z) 2147483648 e)
-fits-by false z v e h = let k : _≡_ {A = ℕ} 0 1 = cc in absurd (omega arith)
-
-pub checked-fits : (z v : ℤ) → checked z ≡ Fits v → (v ≡ z) × (mag z < 2147483648)
-checked-fits z v h = fits-by (in32 z) z v refl h
-
-outside-by : (t : Bool) (z : ℤ) → cond t (Fits z) Outside ≡ Outside → t ≡ false
-outside-by true z h = cc
-outside-by false z h = refl
-
-pub checked-outside : (z : ℤ) → checked z ≡ Outside → in32 z ≡ false
-checked-outside z h = outside-by (in32 z) z h
 
 -- the magnitude, by the sign
 

@@ -71,7 +71,7 @@ module _ (s : List ℕ) (i v : ℕ) (h : i < length s) (d : isDigit (getD s i 0)
   unfolding before
   value-digit = rw (add-one, drop-cons s i 0) (simp (ne-eqb (getD s i 0) 44 comma-not, d))
 
--- its end: the text's, or a comma
+-- the end of a run of digits: the text's, or a comma
 pub index-end : (s : List ℕ) (i : ℕ) → length s ≤ i → indexOf 44 (drop i s) ≡ 0
 index-end s i h = rw (drop-of-length-le s)
 

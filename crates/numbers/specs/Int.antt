@@ -11,15 +11,15 @@ use Rattle.numbers.specs.declared.int.Checked.the-variants.{Fits, Outsid
 abbrev pub in32 : ℤ → Bool
 in32 z = ltb (mag z) 2147483648
 
--- z where it is one
+-- z where it is a signed number of 32 bits
 abbrev pub checked : ℤ → Checked
 checked z = cond (in32 z) (Fits z) Outside
 
--- the smaller
+-- the smaller of two
 abbrev pub minZ : ℤ → ℤ → ℤ
 minZ a b = cond (ltZ a b) a b
 
--- the greater
+-- the greater of two
 abbrev pub maxZ : ℤ → ℤ → ℤ
 maxZ a b = cond (ltZ a b) b a
 
@@ -27,7 +27,7 @@ maxZ a b = cond (ltZ a b) b a
 abbrev pub absZ : ℤ → ℤ
 absZ z = pos (natAbs z)
 
--- the same number
+-- two numbers are the same
 abbrev pub eqZ : ℤ → ℤ → Bool
 eqZ (pos a) (pos b) = eqb a b
 eqZ (pos a) (negsuc b) = false

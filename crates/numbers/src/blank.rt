@@ -14,14 +14,14 @@ fn is_blank1(a: u8) -> bool
     ((0x09 <= a) & (a <= 0x0d)) | (a == 0x20)
 }
 
-// Of two bytes: U+0085, U+00A0.
+// A Unicode blank of two bytes: U+0085, U+00A0.
 fn is_blank2(a: u8, b: u8) -> bool
     ensures { λ r. ⌜ r ≡ isBlank2 a b ⌝ }
 {
     (a == 0xc2) & ((b == 0x85) | (b == 0xa0))
 }
 
-// Of three: U+1680; U+2000..U+200A, U+2028, U+2029, U+202F; U+205F; U+3000.
+// A Unicode blank of three bytes: U+1680; U+2000..U+200A, U+2028, U+2029, U+202F; U+205F; U+3000.
 fn is_blank3(a: u8, b: u8, c: u8) -> bool
     ensures { λ r. ⌜ r ≡ isBlank3 a b c ⌝ }
 {

@@ -82,14 +82,14 @@ pub fn max(a: i32, b: i32) -> i32
     if a < b { b } else { a }
 }
 
-// The same number.
+// Two numbers are the same.
 pub fn equal(a: i32, b: i32) -> bool
     ensures { λ r. ⌜ r ≡ eqZ a b ⌝ }
 {
     a == b
 }
 
-// Its bits, in two's complement.
+// The bits of a number, in two's complement.
 pub fn bits(v: i32) -> u32
     ensures { λ r. ⌜ r ≡ twos v ⌝ }
 {

@@ -15,7 +15,8 @@ use Rattle.text.specs.Utf8.{within}
 use Rattle.text.proofs.BoolLaws.{test, and-both, within-true, within-low, within-high}
 use Rattle.text.proofs.BlankSteps.{trim-plain}
 use Rattle.text.proofs.FieldsLaws.{after-none, fields-cons, count-none}
-use Rattle.parameters.specs.Params.{typeAt, exactly, alone}
+use Rattle.parameters.specs.FieldValues.{exactly, fieldsFrom}
+use Rattle.parameters.specs.Params.{typeAt, exactlyAt, alone}
 
 -- a text of one byte is compared with a byte
 pub same-one : (t : List ℕ) (b : ℕ) → length t ≡ 1 → eqb (getD t 0 0) b ≡ same t (b ∷ [])
@@ -57,8 +58,8 @@ pub alone-some : (s : List ℕ) → alone s ≡ true → 0 < length s
 alone-some [] h = absurd (omega (arith, within-low 45 127 0 h))
 alone-some (a ∷ s) h = omega arith
 
-pub alone-exactly : (s : List ℕ) (b : ℕ) → alone s ≡ true → eqb (getD s 0 0) b ≡ exactly b s
-unfolding exactly typeAt before
+pub alone-exactly : (s : List ℕ) (b : ℕ) → alone s ≡ true → eqb (getD s 0 0) b ≡ exactlyAt b s
+unfolding exactlyAt exactly before
 alone-exactly [] b h = absurd (omega (arith, alone-some [] h))
 alone-exactly (a ∷ t) b h =
     let k = and-both (within 45 127 a) (eqb (indexOf 44 (a ∷ t)) 1) h in
@@ -96,13 +97,8 @@ module _ (s : List ℕ) (n wanted i : ℕ) (inv : n + length (fields (drop i s))
       (λ t. has-found (leb-true wanted 1 t))
       (λ t. t ∙ sym (lt-leb n (length (fields s)) (omega (arith, leb-false wanted 1 t))))
 
--- what follows the k-th comma
-abbrev pub afters : ℕ → List ℕ → List ℕ
-afters zero s = s
-afters (suc k) s = afters k (after 44 s)
-
 -- something stands behind k commas, so there are more than k fields
-beyond : (k : ℕ) (s : List ℕ) → 0 < length (afters k s) → k < length (fields s)
+beyond : (k : ℕ) (s : List ℕ) → 0 < length (fieldsFrom k s) → k < length (fields s)
 unfolding after
 beyond zero s h = rw (fields-cons s) (omega arith)
 beyond (suc k) s h =
@@ -111,7 +107,7 @@ beyond (suc k) s h =
     (λ e. let c : fields s ≡ before 44 s ∷ fields (after 44 s) = rw e at (fields-cons s) in rw c (omega arith))
     (λ e. absurd (empty k (rw (after-none 44 s (ltb-false (indexOf 44 s) (length s) e)) at h)))
   where
-    empty : (k : ℕ) → 0 < length (afters k []) → ⊥
+    empty : (k : ℕ) → 0 < length (fieldsFrom k []) → ⊥
     empty zero h = omega arith
     empty (suc k) h = empty k h
 
@@ -124,7 +120,7 @@ seen-is s t at here =
     (λ e. e ∙ sym (le-ltb 0 (length t) (omega (arith, ltb-false at (length s) e))))
 
 -- a reader that has seen what stands behind k commas need not count
-pub reached : (k : ℕ) (s t : List ℕ) (at : ℕ) {seen has : Bool} → drop at t ≡ afters k s → seen ≡ ltb at (length t) → has ≡ cond seen true (leb (suc k) (length (fields s))) → has ≡ leb (suc k) (length (fields s))
+pub reached : (k : ℕ) (s t : List ℕ) (at : ℕ) {seen has : Bool} → drop at t ≡ fieldsFrom k s → seen ≡ ltb at (length t) → has ≡ cond seen true (leb (suc k) (length (fields s))) → has ≡ leb (suc k) (length (fields s))
 reached k s t at {seen} here e is =
     test seen
     (λ y. (rw y at is) ∙ sym (le-leb (suc k) (length (fields s)) (beyond k s (rw (← here, length-drop) (omega (arith, ltb-true at (length t) (sym e ∙ y)))))))

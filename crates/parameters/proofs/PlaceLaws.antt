@@ -17,6 +17,7 @@ use Rattle.numbers.specs.Number.{numberSpelled, fieldOr}
 use Rattle.text.proofs.BoolLaws.{test, and-both, within-high}
 use Rattle.text.proofs.FieldsLaws.{index-le}
 use Rattle.numbers.proofs.PlainLaws.{field-digits, index-digit, index-end, index-here, value-digit, value-end}
+use Rattle.parameters.specs.FieldValues.{sizeOr, pointOf}
 use Rattle.parameters.specs.Params.{numberAt, sizeAt, pointAt, placeOf, oneDigit, numberFrom, sizeFrom, pointFrom, Ran}
 use Rattle.parameters.specs.declared.params.Digits.{Digits}
 use Rattle.parameters.specs.declared.field_reader.Numbered.{Numbered}
@@ -158,11 +159,11 @@ module _ (s : List ℕ) (at : ℕ) (told : oneDigit s at ≡ true) where
 -- a size by its number, a point by its two
 
 pub size-is : (d : ℤ) (s : List ℕ) (at : ℕ) (r : Numbered) (z : ℤ) → r ≡ numberFrom d s at → z ≡ maxZ (r .value) (pos 1) → record { value = z; next = r .next } ≡ sizeFrom d s at
-unfolding numberFrom sizeFrom sizeAt
+unfolding numberFrom sizeFrom sizeAt sizeOr numberAt
 size-is d s at r z is e = rw (e, is)
 
 pub point-is : (s : List ℕ) (at : ℕ) (x y : Numbered) → x ≡ numberFrom (pos 0) s at → y ≡ numberFrom (pos 0) s (x .next) → record { point = record { x = x .value; y = y .value }; next = y .next } ≡ pointFrom s at
-unfolding numberFrom pointFrom pointAt
+unfolding numberFrom pointFrom pointAt pointOf numberAt
 point-is s at x y p q =
     let h = number-next (pos 0) s at refl p in
     rw (q, h, p)

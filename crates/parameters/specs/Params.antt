@@ -1,44 +1,46 @@
--- Fields in order, as the parameter part s is read from its front: the k-th field is the first of what follows k commas.
+-- Inner: the parameter part s as readers read it, from its front and by places. No claim rests on these: what
+-- commands say is put by fields and their values (`field`, `FieldValues`), and the k-th field is the first of what
+-- follows k commas.
 use mathlib.Core.Path.{_≡_}
 use Prim.Native.Nat.{ℕ, _+_, _-_, _<_, _≤_}
 use mathlib.Core.Bool.{Bool, _&&_}
-use mathlib.Core.List.{List, [], _∷_}
+use mathlib.Core.List.{List}
 use lib.Dec.{eqb}
-use lib.IntN.{ℤ, pos}
+use lib.IntN.{ℤ}
 use lib.ListN.{length, getD, drop}
 use Rattle.text.specs.Blank.{trim}
 use Rattle.text.specs.Class.{isDigit}
-use Rattle.text.specs.Fields.{indexOf, before, after, same}
+use Rattle.text.specs.Fields.{indexOf, before, after}
 use Rattle.text.specs.Utf8.{within}
-use Rattle.numbers.specs.Int.{maxZ}
 use Rattle.numbers.specs.Number.{valueFrom, fieldOr}
 use Rattle.elements.specs.declared.LabelPosition.{LabelPosition}
 use Rattle.parameters.specs.declared.field_reader.Numbered.{Numbered}
 use Rattle.parameters.specs.declared.params.Digits.{Digits}
 use Rattle.parameters.specs.declared.params.Pointed.{Pointed}
+use Rattle.parameters.specs.FieldValues.{sizeOr, pointOf, exactly}
 
+-- ---- from the front
 -- the number in the first field, or its default
 unfoldable pub numberAt : ℤ → List ℕ → ℤ
 numberAt d s = fieldOr d (before 44 s)
 
--- "Least value 1 for multipliers, narrow bar, bar height, thickness, line width and height"
+-- the number in the first field, or its default, where the least value is 1
 unfoldable pub sizeAt : ℤ → List ℕ → ℤ
-sizeAt d s = maxZ (numberAt d s) (pos 1)
+sizeAt d s = sizeOr d (before 44 s)
 
--- x and y, each 0 by default
+-- x and y in the first two fields
 unfoldable pub pointAt : List ℕ → LabelPosition
-pointAt s = record { x = numberAt (pos 0) s; y = numberAt (pos 0) (after 44 s) }
+pointAt s = pointOf (before 44 s) (before 44 (after 44 s))
 
--- the first field, "blanks off"
+-- the first field, blanks off
 unfoldable pub typeAt : List ℕ → List ℕ
 typeAt s = trim (before 44 s)
 
--- the first field is "exactly" the byte b, "blanks off"
-unfoldable pub exactly : ℕ → List ℕ → Bool
-exactly b s = same (typeAt s) (b ∷ [])
+-- the first field, blanks off, is exactly the byte b
+unfoldable pub exactlyAt : ℕ → List ℕ → Bool
+exactlyAt b s = exactly b (before 44 s)
 
--- By place: what is read from a place of s on, and the place of what follows, s's length where nothing does.
-
+-- ---- by place: what is read from a place of s on, and the place of what follows, s's length where nothing does
 -- where t begins, which s ends with
 abbrev pub placeOf : List ℕ → List ℕ → ℕ
 placeOf s t = length s - length t
@@ -47,7 +49,7 @@ placeOf s t = length s - length t
 unfoldable pub numberFrom : ℤ → List ℕ → ℕ → Numbered
 numberFrom d s at = record { value = numberAt d (drop at s); next = placeOf s (after 44 (drop at s)) }
 
--- the same where the least value is 1
+-- a number where the least value is 1, and the place behind its comma
 unfoldable pub sizeFrom : ℤ → List ℕ → ℕ → Numbered
 sizeFrom d s at = record { value = sizeAt d (drop at s); next = placeOf s (after 44 (drop at s)) }
 
@@ -64,7 +66,8 @@ oneDigit s at = isDigit (getD s at 0) && eqb (getD s (at + 1) 0) 44
 abbrev pub alone : List ℕ → Bool
 alone s = within 0x2d 0x7f (getD s 0 0) && eqb (indexOf 44 s) 1
 
--- what `digits_from` answers: read on from r's end with r's value, the field at `at` has the same value and the same comma
+-- what `digits_from` answers: read on from r's end with r's value, the field at `at` has the same value and the same
+-- comma
 pub record Ran (s : List ℕ) (at : ℕ) (r : Digits) : Type 0 where
   pub low : at ≤ r .end
   pub high : r .end ≤ length s

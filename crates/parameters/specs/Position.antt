@@ -23,7 +23,7 @@ placed x y r =
     ifFits (checked (y +ℤ r .y)) placing.Outside λ down.
     placing.At (record { x = across; y = down })
 
--- an element at its position, or 13
+-- an element at its position, or 13 where it has none
 abbrev pub yields : Placed → (LabelPosition → LabelElement) → Reading
 yields (placing.At p) e = reading.Element (e p)
 yields placing.Outside e = reading.Refused refusal.OutOfRange

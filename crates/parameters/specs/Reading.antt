@@ -1,10 +1,12 @@
--- What a line says where it stands at a later place (01, "Forms that change": "data is a place and length in the input").
+-- What a line says where it stands at a later place (01, "Forms that change": "data is a place and length in the
+-- input").
 use Prim.Native.Nat.{ℕ}
 use Rattle.elements.specs.Spans.{shifted}
 use Rattle.parameters.specs.declared.reading.Reading.{Reading}
-use Rattle.parameters.specs.declared.reading.Reading.the-variants.{Nothing, Clear, Reference, Element, Print, Refused}
+use Rattle.parameters.specs.declared.reading.Reading.the-variants.{Nothing, Clear, Reference, Element, Print}
+use Rattle.parameters.specs.declared.reading.Reading.the-variants.{Refused}
 
--- the same where n bytes more stand before the line: only data moves
+-- what a line says where n bytes more stand before it: only data moves
 abbrev pub laterReading : ℕ → Reading → Reading
 laterReading n Nothing = Nothing
 laterReading n Clear = Clear

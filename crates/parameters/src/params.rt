@@ -7,7 +7,7 @@ ghost use lib.Dec.{leb};
 ghost use lib.ListN.{length, drop};
 ghost use Rattle.text.specs.Fields.{fields};
 ghost use Rattle.text.specs.Utf8.{within};
-ghost use Rattle.parameters.specs.Params.{Ran, alone, oneDigit, numberFrom, sizeFrom, pointFrom, typeAt, exactly};
+ghost use Rattle.parameters.specs.Params.{Ran, alone, oneDigit, numberFrom, sizeFrom, pointFrom, typeAt, exactlyAt};
 use crate::field_reader::Numbered;
 use crate::field_reader::new;
 use crate::field_reader::next_number;
@@ -45,7 +45,8 @@ fn digits_from(s: &[u8], at: usize) -> Digits
     Digits { value, end }
 }
 
-// The same as `field_from`; a few digits, which most fields are, say their value as they stand. Small, so that it is inlined; the other fields are a call.
+// The number in the field at a place, or the default. A few digits, which most fields are, say their value as they stand. Small, so that it is inlined;
+// the other fields are a call of `field_from`.
 fn digits_or_field(s: &[u8], at: usize, default: i32) -> Numbered
     ensures { λ r. ⌜ r ≡ numberFrom default (now (s .entry)) at ⌝ }
 {
@@ -85,7 +86,7 @@ fn is_one_digit(s: &[u8], at: usize) -> bool
     is_digit(s[at]) & (s[at + 1] == b',')
 }
 
-// The same; one digit, which many fields are, is told at once.
+// The number in the field at a place, or the default. One digit, which many fields are, is told at once.
 pub fn number_from(s: &[u8], at: usize, default: i32) -> Numbered
     ensures { λ r. ⌜ r ≡ numberFrom default (now (s .entry)) at ⌝ }
 {
@@ -98,7 +99,7 @@ pub fn number_from(s: &[u8], at: usize, default: i32) -> Numbered
     digits_or_field(s, at, default)
 }
 
-// The same where the least value is 1.
+// The number in the field at a place, or the default, where the least value is 1.
 pub fn size_from(s: &[u8], at: usize, default: i32) -> Numbered
     ensures { λ r. ⌜ r ≡ sizeFrom default (now (s .entry)) at ⌝ }
 {
@@ -150,7 +151,7 @@ fn is_mark(b: u8) -> bool
     (0x2d <= b) & (b <= 0x7f)
 }
 
-// The first field is one such byte.
+// The first field is one byte, neither a comma nor part of a blank.
 fn is_alone(s: &[u8]) -> bool
     ensures { λ r. ⌜ r ≡ alone (now (s .entry)) ⌝ }
 {
@@ -165,7 +166,7 @@ fn is_alone(s: &[u8]) -> bool
 
 // The first field, its blanks off, is exactly the byte b.
 fn is_field(s: &[u8], b: u8) -> bool
-    ensures { λ r. ⌜ r ≡ exactly b (now (s .entry)) ⌝ }
+    ensures { λ r. ⌜ r ≡ exactlyAt b (now (s .entry)) ⌝ }
 {
     if is_alone(s) {
         return s[0] == b;
@@ -174,9 +175,10 @@ fn is_field(s: &[u8], b: u8) -> bool
     if t.len() == 1 { t[0] == b } else { false }
 }
 
-// The same; a last field of one byte, which most are, is told at once. Small, so that it is inlined; the other fields are a call.
+// The first field, its blanks off, is exactly the byte b. A last field of one byte, which most are, is told at once. Small, so that it is inlined;
+// the other fields are a call of `is_field`.
 pub fn is_exactly(s: &[u8], b: u8) -> bool
-    ensures { λ r. ⌜ r ≡ exactly b (now (s .entry)) ⌝ }
+    ensures { λ r. ⌜ r ≡ exactlyAt b (now (s .entry)) ⌝ }
 {
     if s.len() != 1 {
         return is_field(s, b);
@@ -222,7 +224,7 @@ pub fn tail(s: &[u8]) -> &[u8]
     &s[1..]
 }
 
-// The same of its first two.
+// s without its first two bytes, as far as it has them.
 pub fn tail_two(s: &[u8]) -> &[u8]
     ensures { λ r. ⌜ now r ≡ drop 2 (now (s .entry)) ⌝ }
 {

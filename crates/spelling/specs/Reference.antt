@@ -5,13 +5,14 @@ use mathlib.Core.List.{List}
 use lib.Dec.{eqb}
 use lib.IntN.{pos}
 use lib.ListN.{length}
-use Rattle.text.specs.Fields.{indexOf, before, after}
+use Rattle.text.specs.Fields.{indexOf, after, field}
 use Rattle.numbers.specs.Number.{fieldOr}
 use Rattle.elements.specs.declared.LabelPosition.{LabelPosition}
 
+-- the reference that a line sets whose parameters are s, where r stood
 unfoldable pub referenceOf : List ℕ → LabelPosition → LabelPosition
 referenceOf s r =
     record {
-      x = fieldOr (pos 0) (before 44 s);
+      x = fieldOr (pos 0) (field s 0);
       y = cond (eqb (indexOf 44 s) (length s)) (r .y) (fieldOr (pos 0) (after 44 s));
     }

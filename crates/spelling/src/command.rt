@@ -2,6 +2,7 @@
 ghost use mathlib.Core.Path.{_≡_};
 ghost use mathlib.Core.List.{[], _∷_};
 ghost use lib.ListN.{getD};
+ghost use Rattle.text.specs.Ascii.{spelt};
 ghost use Rattle.spelling.specs.Command.{isReference, isPrint, commandOf};
 use bytes::class::all_digits;
 use bytes::class::is_digit;
@@ -51,7 +52,7 @@ pub fn is_epl_print_command(t: &[u8]) -> bool
 
 // An `L` and the byte b: `LO`, `LW`, `LS`.
 pub fn line_command(b: u8) -> Command
-    ensures { λ r. ⌜ r ≡ commandOf (76 ∷ b ∷ []) ⌝ }
+    ensures { λ r. ⌜ r ≡ commandOf (spelt "L" (b ∷ [])) ⌝ }
 {
     match b {
         b'O' => Command::Line(LineColor::Black),

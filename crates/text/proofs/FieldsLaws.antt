@@ -2,16 +2,16 @@
 -- with the steps of the loops that find them. Assumes nothing.
 use mathlib.Core.Path.{_≡_, refl, sym, ap, _∙_}
 use mathlib.Core.Bool.{Bool, true, false, cond, true≢false}
-use mathlib.Core.List.{List, [], _∷_, _++_, reverse, reverse-append, reverse-reverse}
+use mathlib.Core.List.{List, [], _∷_, reverse, reverse-reverse}
 use Prim.Native.Nat.{ℕ, zero, suc, _+_, _-_, _<_, _≤_}
 use native.Mathlib.Nat.{not-suc-le-zero}
 use native.Mathlib.Numerals.{add-one}
 use native.Mathlib.Omega.{arith}
-use lib.ListN.{length, getD, take, drop, length-take, length-drop, length-reverse, drop-of-length-le, take-append-drop}
-use lib.Seq.{drop-cons, split-at, take-append-seam}
+use lib.ListN.{length, getD, take, drop, length-drop, length-reverse, drop-of-length-le}
+use lib.Seq.{drop-cons}
 use lib.Dec.{eqb, ltb, leb·suc-suc}
 use borrow.Author.Tests.{eqb-true, eq-eqb, ne-eqb, lt-ltb, ltb-false}
-use Rattle.text.specs.Fields.{indexOf, before, after, beforeLast, quoted, ahead, fields, field, same}
+use Rattle.text.specs.Fields.{indexOf, before, after, beforeLast, ahead, fields, field, same}
 use Rattle.text.proofs.BoolLaws.{and-both, test}
 use Rattle.text.proofs.DropSteps.{rest, rev-take, take-none}
 
@@ -25,18 +25,7 @@ pub index-le : (b : ℕ) (s : List ℕ) → indexOf b s ≤ length s
 index-le b [] = omega arith
 index-le b (x ∷ s) = cond-index-le (eqb x b) (indexOf b s) (length s) (index-le b s)
 
-pub index-found : (b : ℕ) (s : List ℕ) → indexOf b s < length s → getD s (indexOf b s) 0 ≡ b
-index-found b [] h = absurd (not-suc-le-zero h)
-index-found b (x ∷ s) h =
-    test (eqb x b)
-    (λ e. simp e (eqb-true x b e))
-    (λ e. let k : suc (indexOf b s) < suc (length s) = simp e at h in simp e (index-found b s (omega arith)))
-
 -- before, after, beforeLast
-
-pub before-le : (b : ℕ) (s : List ℕ) → length (before b s) ≤ length s
-unfolding before
-before-le b s = simp length-take (omega arith)
 
 pub after-le : (b : ℕ) (s : List ℕ) → length (after b s) ≤ length s
 unfolding after
@@ -45,11 +34,6 @@ after-le b s = simp length-drop (omega arith)
 pub before-last-le : (b : ℕ) (s : List ℕ) → length (beforeLast b s) ≤ length s
 unfolding beforeLast
 before-last-le b s = rw length-reverse (omega (arith, after-le b (reverse s), length-reverse s))
-
--- the parts before and after the first b, and b between them
-pub before-append : (b : ℕ) (s : List ℕ) → indexOf b s < length s → before b s ++ (b ∷ after b s) ≡ s
-unfolding before after
-before-append b s h = sym (split-at s (indexOf b s) 0 h ∙ ap (λ (x : ℕ). before b s ++ (x ∷ after b s)) (index-found b s h))
 
 -- where there is no b
 pub after-none : (b : ℕ) (s : List ℕ) → length s ≤ indexOf b s → after b s ≡ []
@@ -63,21 +47,6 @@ after-here b s r e = rest s (r + 1) ∙ rw (add-one, e)
 
 pub after-end : (b : ℕ) (s : List ℕ) (r : ℕ) → r ≡ indexOf b s → length s ≤ r → take (length s - r) (drop r s) ≡ after b s
 after-end b s r e h = rest s r ∙ drop-of-length-le s h ∙ sym (after-none b s (omega arith))
-
-front : (p q s : List ℕ) → p ++ q ≡ s → p ≡ take (length p) s
-front p q s e = sym (ap (take (length p)) (sym e) ∙ take-append-seam p q)
-
--- the part before the last b stands first in s
-pub before-last-is : (b : ℕ) (s : List ℕ) → beforeLast b s ≡ take (length (beforeLast b s)) s
-unfolding beforeLast after
-before-last-is b s =
-    let r = reverse s in let k = suc (indexOf b r) in
-    front (beforeLast b s) (reverse (take k r)) s (sym (reverse-append (take k r) (drop k r)) ∙ ap reverse (take-append-drop k r) ∙ reverse-reverse s)
-
--- the data stands after the first quote
-pub quoted-is : (s : List ℕ) → quoted s ≡ take (length (quoted s)) (drop (suc (indexOf 34 s)) s)
-unfolding after
-quoted-is s = before-last-is 34 (after 34 s)
 
 -- one turn of the loop that looks for the last b, at n
 module _ (b : ℕ) (s : List ℕ) (n : ℕ) where

@@ -6,12 +6,12 @@ use mathlib.Core.List.{List, [], _∷_, _++_, map, flatten, append-assoc}
 use Prim.Native.Nat.{ℕ, zero, suc, _-_, _*_, _<_, _≤_}
 use native.Mathlib.Nat.{not-suc-le-zero}
 use native.Mathlib.Omega.{arith}
-use lib.ListN.{length, getD, take, drop, length-drop, length-append, take-append-drop}
+use lib.ListN.{length, take, drop, length-drop, length-append, take-append-drop}
 use lib.Seq.{take-append-le, take-append-seam, drop-append-seam, length-take-le}
 use lib.Dec.{eqb}
-use borrow.Author.Tests.{eqb-true, lt-ltb, lt-leb}
-use Rattle.text.specs.Utf8.{within, need, low, high, run, more, partsAfter, parts, whole, replacement, shown, chars, decode}
-use Rattle.text.proofs.BoolLaws.{test, within-false}
+use borrow.Author.Tests.{lt-ltb, lt-leb}
+use Rattle.text.specs.Utf8.{within, need, low, high, run, more, partsAfter, parts, whole, replacement, shown, decode}
+use Rattle.text.proofs.BoolLaws.{within-false}
 
 -- the table
 
@@ -122,11 +122,6 @@ decode-ascii a s h = ap (λ (l : List (List ℕ)). flatten (map shown l)) (parts
 pub decode-split : (s : List ℕ) (b : ℕ) (c : List ℕ) → b < 128 → decode (s ++ (b ∷ c)) ≡ decode s ++ (b ∷ decode c)
 decode-split s b c h = decode-append s b c (simp (lt-leb 128 b h)) ∙ ap (λ (l : List ℕ). decode s ++ l) (decode-ascii b c h)
 
-pub decode-all-ascii : (s : List ℕ) → ((i : ℕ) → i < length s → getD s i 0 < 128) → decode s ≡ s
-unfolding flatten
-decode-all-ascii [] h = refl
-decode-all-ascii (b ∷ s) h = decode-ascii b s (h 0 (omega arith)) ∙ ap (λ (l : List ℕ). b ∷ l) (decode-all-ascii s (λ i l. h (suc i) (omega arith)))
-
 cond-length : (x : Bool) (p : List ℕ) (n : ℕ) → length p ≡ suc n → length (cond x p replacement) ≤ 3 * suc n
 cond-length true p n h = omega arith
 cond-length false p n h = omega arith
@@ -148,49 +143,6 @@ length-after (a ∷ s) (suc k) = length-after s k
 pub length-decode-le : (s : List ℕ) → length (decode s) ≤ 3 * length s
 length-decode-le s = length-after s 0
 
--- the decoded text is well formed: its parts are its characters, and decoding it again changes nothing
-
-run-all : (lo hi n : ℕ) (s r : List ℕ) → run lo hi n s ≡ n → run lo hi n (take n s ++ r) ≡ n
-run-all lo hi zero s r h = refl
-run-all lo hi (suc n) [] r h = absurd (omega arith)
-run-all lo hi (suc n) (b ∷ s) r h =
-    test (within lo hi b)
-    (λ e. let k : suc (run 128 191 n s) ≡ suc n = simp e at h in simp e (ap suc (run-all 128 191 n s r (omega arith))))
-    (λ e. let k : _≡_ {A = ℕ} 0 (suc n) = simp e at h in absurd (omega arith))
-
 -- a part that begins with a and goes on with the bytes q
 pub part-is : (a : ℕ) (q r : List ℕ) → more a (q ++ r) ≡ length q → parts (a ∷ (q ++ r)) ≡ (a ∷ q) ∷ parts r
 part-is a q r e = parts-cons a (q ++ r) ∙ ap (λ (m : ℕ). (a ∷ take m (q ++ r)) ∷ parts (drop m (q ++ r))) e ∙ simp (take-append-seam, drop-append-seam)
-
-shown-by : (x : Bool) (a : ℕ) (t r : List ℕ) → whole (a ∷ take (more a t) t) ≡ x
-    → parts (cond x (a ∷ take (more a t) t) replacement ++ r) ≡ cond x (a ∷ take (more a t) t) replacement ∷ parts r
-unfolding need low high
-shown-by true a t r e =
-    let l = length-take-le (more a t) t (more-le a t) in
-    let n = eqb-true (suc (length (take (more a t) t))) (need a) e in
-    let f : need a - 1 ≡ more a t = omega arith in
-    part-is a (take (more a t) t) r (ap (λ (m : ℕ). more a (take m t ++ r)) (sym f) ∙ run-all (low a) (high a) (need a - 1) t r (sym f) ∙ f ∙ sym l)
-shown-by false a t r e = part-is 0xef (0xbf ∷ 0xbd ∷ []) r refl
-
-parts-after-decode : (s : List ℕ) (k : ℕ) → parts (flatten (map shown (partsAfter s k))) ≡ map shown (partsAfter s k)
-unfolding flatten
-parts-after-decode [] k = refl
-parts-after-decode (a ∷ s) zero =
-    shown-by (whole (a ∷ take (more a s) s)) a s (flatten (map shown (partsAfter s (more a s)))) refl
-    ∙ ap (λ (l : List (List ℕ)). shown (a ∷ take (more a s) s) ∷ l) (parts-after-decode s (more a s))
-parts-after-decode (a ∷ s) (suc k) = parts-after-decode s k
-
-pub parts-decode : (s : List ℕ) → parts (decode s) ≡ chars s
-parts-decode s = parts-after-decode s 0
-
-shown-shown-by : (x : Bool) (p : List ℕ) → whole p ≡ x → shown (cond x p replacement) ≡ cond x p replacement
-unfolding need
-shown-shown-by true p e = simp e
-shown-shown-by false p e = refl
-
-shown-shown : (ps : List (List ℕ)) → map shown (map shown ps) ≡ map shown ps
-shown-shown [] = refl
-shown-shown (p ∷ ps) = ap (λ (c : List ℕ). c ∷ map shown (map shown ps)) (shown-shown-by (whole p) p refl) ∙ ap (λ (l : List (List ℕ)). shown p ∷ l) (shown-shown ps)
-
-pub decode-decode : (s : List ℕ) → decode (decode s) ≡ decode s
-decode-decode s = ap flatten (ap (map shown) (parts-decode s) ∙ shown-shown (parts s))

@@ -1,15 +1,15 @@
 -- The well-formed sequences of Unicode's table are the parts that `whole` holds of: every such part stands in the table (`whole-sound`),
--- and every sequence of the table is such a part wherever it stands (`whole-complete`, `parts-whole`), decoded to itself. Assumes nothing.
+-- and every sequence of the table is such a part wherever it stands (`whole-complete`, `parts-whole`). Assumes nothing.
 use mathlib.Core.Path.{_≡_, refl, sym, ap, _∙_, subst}
 use mathlib.Core.Bool.{true}
-use mathlib.Core.List.{List, [], _∷_, _++_, map, flatten, append-nil}
+use mathlib.Core.List.{List, [], _∷_, _++_}
 use Prim.Native.Nat.{ℕ, suc, _-_, _<_, _≤_}
 use native.Mathlib.Omega.{arith}
 use lib.ListN.{length, take}
 use lib.Seq.{length-take-le}
 use lib.Dec.{eqb, ltb}
 use borrow.Author.Tests.{eqb-true, ltb-true, le-ltb, le-leb, lt-leb}
-use Rattle.text.specs.Utf8.{within, need, low, high, run, more, parts, whole, shown, decode}
+use Rattle.text.specs.Utf8.{within, need, low, high, run, more, parts, whole}
 use Rattle.text.proofs.BoolLaws.{test, within-true, within-low, within-high}
 use Rattle.text.proofs.Utf8Laws.{more-le, low-ge, high-le, need-ascii, parts-ascii, part-is}
 
@@ -145,11 +145,3 @@ parts-whole r (three a b c p q l h x y z w) =
 parts-whole r (four a b c d p q l h x y z w u v) =
     let g = within-true (low a) (high a) b (low-le a b (λ e. absurd (omega arith)) l x) (high-ge a b (λ e. absurd (omega arith)) h y) in
     part-is a (b ∷ c ∷ d ∷ []) r (rw (need-four a p q) (simp (g, within-true 128 191 c z w, within-true 128 191 d u v)))
-
-pub decode-whole : {w : List ℕ} (r : List ℕ) → Whole w → decode (w ++ r) ≡ w ++ decode r
-unfolding flatten
-decode-whole r h = ap (λ (l : List (List ℕ)). flatten (map shown l)) (parts-whole r h) ∙ simp (whole-complete h)
-
-pub decode-whole-is : {w : List ℕ} → Whole w → decode w ≡ w
-unfolding flatten
-decode-whole-is {w} h = ap decode (sym (append-nil w)) ∙ decode-whole [] h ∙ append-nil w

@@ -27,7 +27,7 @@ rep (suc n) c = rep n c * 256 + c
 unfoldable pub zeroMarks : ℕ → ℕ → ℕ
 zeroMarks n x = bitXor (bitAnd (bitOr (bitAnd x (rep n 127) + rep n 127) x) (rep n 128)) (rep n 128)
 
--- the same of one byte
+-- 80 where a byte is 0, and 0 where it is anything else
 abbrev one : ℕ → ℕ
 one y = bitXor (bitAnd (bitOr (bitAnd y 127 + 127) y) 128) 128
 
@@ -85,7 +85,7 @@ module _ (a : List ℕ) (b : ℕ) (l : b < 256) where
       ∙ zero-marks-step n (bitXor (wordAt n a (i + 1)) (rep n b)) (bitXor (getD a i 0) b) x
       ∙ (rw (zero-marks-word n (i + 1) (λ k p q. h k (omega arith) (omega arith)), one-is (bitXor (getD a i 0) b) x, xor-zero (getD a i 0) b) refl)
 
--- the same of eight bytes, and of b eight times by one product
+-- the marks of eight bytes, where b stands eight times by one product
 pub word-marks : {a : List ℕ} {b i w v : ℕ} → Word 8 a i w → v ≡ b → v < 256 → zeroMarks 8 (bitXor w (v * 0x0101010101010101)) ≡ marksAt 8 a b i
 unfolding rep
 word-marks {a} {b} {i} {w} {v} h e l =

@@ -16,20 +16,20 @@ module _ {A : Type 0} where
   dropWhile p [] = []
   dropWhile p (x ∷ xs) = cond (p x) (dropWhile p xs) (x ∷ xs)
 
-  -- the elements of p that it starts with
+  -- the elements of p that a list starts with
   abbrev pub front : (A → Bool) → List A → List A
   front p [] = []
   front p (x ∷ xs) = cond (p x) (x ∷ front p xs) []
 
-  -- without those that it ends with
+  -- a list without the elements of p that it ends with
   abbrev pub dropEnd : (A → Bool) → List A → List A
   dropEnd p xs = reverse (dropWhile p (reverse xs))
 
-  -- both
+  -- a list without the elements of p at both ends
   abbrev pub dropBoth : (A → Bool) → List A → List A
   dropBoth p xs = dropEnd p (dropWhile p xs)
 
--- without the ASCII blanks at both ends
+-- a text without the ASCII blanks at both ends
 abbrev pub trimAscii : List ℕ → List ℕ
 trimAscii s = dropBoth isAsciiBlank s
 
@@ -37,11 +37,11 @@ trimAscii s = dropBoth isAsciiBlank s
 abbrev pub isBlank1 : ℕ → Bool
 isBlank1 a = within 0x09 0x0d a || eqb a 0x20
 
--- of two: U+0085, U+00A0
+-- the Unicode blanks of two bytes: U+0085, U+00A0
 abbrev pub isBlank2 : ℕ → ℕ → Bool
 isBlank2 a b = eqb a 0xc2 && (eqb b 0x85 || eqb b 0xa0)
 
--- of three: U+1680; U+2000..U+200A, U+2028, U+2029, U+202F; U+205F; U+3000
+-- the Unicode blanks of three bytes: U+1680; U+2000..U+200A, U+2028, U+2029, U+202F; U+205F; U+3000
 abbrev pub isBlank3 : ℕ → ℕ → ℕ → Bool
 isBlank3 a b c =
     eqb a 0xe1 && eqb b 0x9a && eqb c 0x80
@@ -83,7 +83,7 @@ back p w = p (reverse w)
 abbrev pub stripEnd : (List ℕ → Bool) → List ℕ → List ℕ
 stripEnd p s = reverse (strip (back p) (reverse s))
 
--- without the Unicode blanks at one end
+-- a text without the Unicode blanks that it starts with, and without those that it ends with
 abbrev pub trimStart : List ℕ → List ℕ
 trimStart s = strip isBlank s
 

@@ -12,7 +12,7 @@ isDigit b = within 48 57 b
 abbrev pub isLetter : ℕ → Bool
 isLetter b = within 65 90 b || within 97 122 b
 
--- every byte is a digit; so of no byte
+-- every byte of a text is a digit; so it is of an empty one
 abbrev pub allDigits : List ℕ → Bool
 allDigits [] = true
 allDigits (b ∷ s) = isDigit b && allDigits s

@@ -43,11 +43,11 @@ abbrev pub field : List ℕ → ℕ → List ℕ
 field s zero = before 44 s
 field s (suc k) = field (after 44 s) k
 
--- trailing commas dropped
+-- s, trailing commas dropped
 unfoldable pub withoutTrailingCommas : List ℕ → List ℕ
 withoutTrailingCommas s = dropEnd (λ b. eqb b 44) s
 
--- the same bytes
+-- two texts have the same bytes
 abbrev pub same : List ℕ → List ℕ → Bool
 same [] [] = true
 same [] (y ∷ ys) = false

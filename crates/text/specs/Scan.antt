@@ -28,7 +28,7 @@ pub record First (a : List ℕ) (b lo hi r : ℕ) : Type 0 where
 unfoldable pub nearIn : ℕ → List ℕ → ℕ
 nearIn b a = cond (ltb (length a) 96) 96 (indexOf b (take 96 a))
 
--- r is that; below 96 it is the first b of a, and stands in it
+-- r is `nearIn b a`; below 96 it is the first b of a, and stands in it
 pub record Near (a : List ℕ) (b r : ℕ) : Type 0 where
   pub is : r ≡ nearIn b a
   pub inside : r < 96 → r < length a

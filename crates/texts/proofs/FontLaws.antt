@@ -1,19 +1,18 @@
--- A text's width, height × across / height at binary64: exact where the product is below 2 ^ 53, and never NaN where the height is above zero.
+-- A text's width, height × across / height at binary64: exact where the product is below 2 ^ 53.
 -- Assumes nothing.
 use mathlib.Core.Path.{_≡_, sym, _∙_, subst}
-use mathlib.Core.Bool.{false, not}
+use mathlib.Core.Bool.{false}
 use Prim.Native.Nat.{ℕ, _*_, _^_, _≤_, _<_}
 use native.Mathlib.Nat.{le-of-lt, le-trans, le-of-eq, zero-lt-suc, mul-one, one-mul, mul-comm, mul-pos, mul-le-mul-right, mul-le-mul-left}
 use lib.Dec.{T}
-use lib.IntN.{ℤ, pos}
-use lib.Signed.{mag, ltZ}
-use lib.Ieee.{Float, binary64, round, mul, ofInt, isNan}
+use lib.IntN.{pos}
+use lib.Ieee.{Float, binary64, round, mul, ofInt}
 use lib.Ieee.Exact.{HasValue}
 use lib.Ieee.Back.{round-whole}
 use lib.Ieee.Scale.{round-same}
 use lib.Ieee.Positive.{positive, positive-of-value, mul-at}
 use Rattle.texts.specs.Font.{widthOf}
-use Rattle.parameters.proofs.FloatLaws.{div-at, int-val, mul-num, div-num, int-finite, int-positive}
+use Rattle.parameters.proofs.FloatLaws.{div-at, int-val}
 
 -- 01, "Grammar": "A product below 2^53 gives the width exactly"
 pub width-exact : (h a : ℕ) → 0 < h → 0 < a → h * a < 2 ^ 53 → widthOf (pos h) (pos a) ≡ ofInt binary64 (pos a)
@@ -32,8 +31,3 @@ width-exact h a H A small =
     let pm : T (positive (mul binary64 x y)) = positive-of-value (mul binary64 x y) (h * a) 1 vm (mul-pos H A) in
     div-at binary64 (mul binary64 x y) x (h * a) 1 h 1 pm px (zero-lt-suc 0) H vm vx
     ∙ round-same binary64 false (h * a * 1) (h * 1) a 1 (mul-pos H (zero-lt-suc 0)) (zero-lt-suc 0) (simp (mul-one, mul-comm))
-
--- a width is a number wherever the height is above zero
-pub width-number : (h a : ℤ) → T (ltZ (pos 0) h) → mag h < 2 ^ 31 → mag a < 2 ^ 31 → T (not (isNan (widthOf h a)))
-unfolding widthOf
-width-number h a p u v = div-num binary64 _ _ (mul-num binary64 _ _ (int-finite h u) (int-finite a v)) (int-positive h p u)

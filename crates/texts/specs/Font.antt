@@ -22,8 +22,8 @@ cellOf n =
 unfoldable pub widthOf : ℤ → ℤ → Float
 widthOf h a = div binary64 (mul binary64 (ofInt binary64 h) (ofInt binary64 a)) (ofInt binary64 h)
 
--- "Text height is font height times vertical multiplier; width equals height if the multipliers are equal, else height × (horizontal × font width) / height";
--- "Products of whole numbers must fit 32 bits"
+-- "Text height is font height times vertical multiplier; width equals height if the multipliers are equal, else
+-- height × (horizontal × font width) / height"; "Products of whole numbers must fit 32 bits"
 unfoldable pub fontOf : ℤ → ℤ → ℤ → ℤ → Scaled
 fontOf n h v r =
     ifFits (checked (cellOf n .height *ℤ v)) Outside λ height.

@@ -1,11 +1,14 @@
--- `A` (01, "Grammar"): "x, y, rotation, font, horizontal multiplier, vertical multiplier, reverse (flag 1 if exactly `R`, blanks off)".
+-- `A` (01, "Grammar"): "x, y, rotation, font, horizontal multiplier, vertical multiplier, reverse (flag 1 if exactly
+-- `R`, blanks off)".
 use Prim.Native.Nat.{ℕ}
 use mathlib.Core.Bool.{cond}
 use mathlib.Core.List.{List}
 use lib.Dec.{ltb}
 use lib.IntN.{pos}
 use lib.ListN.{length}
-use Rattle.text.specs.Fields.{after, fields}
+use Rattle.text.specs.Ascii.{letter}
+use Rattle.text.specs.Fields.{fields, field}
+use Rattle.numbers.specs.Number.{fieldOr}
 use Rattle.elements.specs.declared.DataSpan.{DataSpan}
 use Rattle.elements.specs.declared.LabelElement.the-variants as element
 use Rattle.elements.specs.declared.LabelPosition.{LabelPosition}
@@ -15,35 +18,38 @@ use Rattle.texts.specs.declared.fonts.Scaled.the-variants as scaled
 use Rattle.parameters.specs.declared.position.Placed.{Placed}
 use Rattle.parameters.specs.declared.reading.Reading.{Reading}
 use Rattle.parameters.specs.declared.reading.Reading.the-variants as reading
-use Rattle.texts.specs.declared.epl_text.Scale.{Scale}
 use Rattle.texts.specs.declared.epl_text.TextFields.{TextFields}
 use Rattle.texts.specs.Font.{fontOf}
-use Rattle.parameters.specs.Params.{numberAt, sizeAt, pointAt, exactly}
+use Rattle.parameters.specs.FieldValues.{sizeOr, pointOf, exactly}
 use Rattle.parameters.specs.Position.{placed, yields}
 
--- the multipliers, 1 by default and at least, and the reverse flag
-unfoldable pub scaleAt : List ℕ → Scale
-scaleAt s = record { «h_mult» = sizeAt (pos 1) s; «v_mult» = sizeAt (pos 1) (after 44 s); reverse = exactly 82 (after 44 (after 44 s)) }
-
--- the seven fields; the font's default is 1
+-- the seven fields; defaults: font 1, multipliers 1
 unfoldable pub textFields : List ℕ → TextFields
 textFields s =
     record {
-      at = pointAt s;
-      rotation = numberAt (pos 0) (after 44 (after 44 s));
-      font = numberAt (pos 1) (after 44 (after 44 (after 44 s)));
-      scale = scaleAt (after 44 (after 44 (after 44 (after 44 s))));
+      at = pointOf (field s 0) (field s 1);
+      rotation = fieldOr (pos 0) (field s 2);
+      font = fieldOr (pos 1) (field s 3);
+      scale =
+          record {
+            «h_mult» = sizeOr (pos 1) (field s 4);
+            «v_mult» = sizeOr (pos 1) (field s 5);
+            reverse = exactly (letter "R") (field s 6);
+          };
     }
 
--- the text at its position, or 13
+-- the text in its font at its position, or 13
 abbrev pub textOf : TextFields → DataSpan → Scaled → Placed → Reading
-textOf f d (scaled.Font i) p = yields p λ at. element.Text (record { position = at; «reverse_print» = f .scale .reverse; font = i; text = d })
+textOf f d (scaled.Font i) p =
+    yields p λ at. element.Text (record { position = at; «reverse_print» = f .scale .reverse; font = i; text = d })
 textOf f d scaled.Outside p = reading.Refused refusal.OutOfRange
 
 unfoldable pub textElement : TextFields → DataSpan → LabelPosition → Reading
 textElement f d r =
-    textOf f d (fontOf (f .font) (f .scale .«h_mult») (f .scale .«v_mult») (f .rotation)) (placed (f .at .x) (f .at .y) r)
+    textOf f d (fontOf (f .font) (f .scale .«h_mult») (f .scale .«v_mult») (f .rotation))
+    (placed (f .at .x) (f .at .y) r)
 
 -- "number at least 7", or 1
 unfoldable pub textReading : List ℕ → DataSpan → LabelPosition → Reading
-textReading s d r = cond (ltb (length (fields s)) 7) (reading.Refused refusal.TextFields) (textElement (textFields s) d r)
+textReading s d r =
+    cond (ltb (length (fields s)) 7) (reading.Refused refusal.TextFields) (textElement (textFields s) d r)

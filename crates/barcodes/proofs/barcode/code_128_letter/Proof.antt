@@ -1,7 +1,7 @@
 -- `barcodes::barcode::code_128_letter` meets its contract, by its tests in turn.
 -- Assumes nothing.
 use borrow.Author.Tests.{ne-eqb}
-use Rattle.barcodes.specs.Barcode.{code128Letter}
+use Rattle.barcodes.specs.Letters.{code128Letter}
 use Rattle.barcodes.proofs.barcode.code_128_letter.Statement.{statement}
 use Rattle.barcodes.proofs.barcode.code_128_letter.Tie as tie
 

@@ -1,7 +1,7 @@
 -- `barcodes::barcode::one_letter` meets its contract, arm by arm.
 -- Assumes nothing.
 use borrow.Author.Tests.{ne-eqb}
-use Rattle.barcodes.specs.Barcode.{oneLetter}
+use Rattle.barcodes.specs.Letters.{oneLetter}
 use Rattle.barcodes.proofs.barcode.one_letter.Statement.{statement}
 use Rattle.barcodes.proofs.barcode.one_letter.Tie as tie
 

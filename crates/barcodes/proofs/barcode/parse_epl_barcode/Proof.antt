@@ -5,12 +5,14 @@ use mathlib.Core.List.{List}
 use Prim.Native.Nat.{ℕ, _+_}
 use lib.Dec.{leb}
 use lib.ListN.{length, drop}
+use Rattle.text.specs.Ascii.{letter}
 use Rattle.text.specs.Fields.{after, fields}
 use Rattle.numbers.proofs.IntLaws.{back32}
-use Rattle.parameters.specs.Params.{pointAt, typeAt, exactly}
-use Rattle.parameters.proofs.ParamsLaws.{type-upto, after-upto, too-few, enough, afters, reached}
+use Rattle.parameters.specs.FieldValues.{pointOf, fieldsFrom}
+use Rattle.parameters.specs.Params.{numberAt, sizeAt, typeAt, exactlyAt}
+use Rattle.parameters.proofs.ParamsLaws.{type-upto, after-upto, too-few, enough, reached}
 use Rattle.parameters.proofs.PlaceLaws.{number-value, number-next, size-value, size-next}
-use Rattle.barcodes.specs.Barcode.{symbologyOf, barsAt, barcodeFields, barcodeReading}
+use Rattle.barcodes.specs.Barcode.{symbologyOf, barcodeFields, barcodeReading}
 use borrow.Author.Needs.{needs}
 use Rattle.barcodes.proofs.barcode.parse_epl_barcode.Statement.{statement}
 use Rattle.barcodes.proofs.barcode.parse_epl_barcode.Tie as tie
@@ -44,25 +46,25 @@ module _ (d : tie.After-size-from2) where
   abbrev t : List ℕ
   t = rest .rest-from .result .now
 
-  at-y : drop (x .number-from .result .next) s ≡ afters 1 s
+  at-y : drop (x .number-from .result .next) s ≡ fieldsFrom 1 s
   at-y = number-next _ _ _ refl (x .number-from .ensures)
 
-  at-r : drop (y .number-from2 .result .next) s ≡ afters 2 s
+  at-r : drop (y .number-from2 .result .next) s ≡ fieldsFrom 2 s
   at-r = number-next _ _ _ at-y (y .number-from2 .ensures)
 
-  at-t : t ≡ afters 3 s
+  at-t : t ≡ fieldsFrom 3 s
   at-t = rest .rest-from .ensures ∙ number-next _ _ _ at-r (rotation .number-from3 .ensures)
 
-  at-n : drop (comma .find .result + 1) t ≡ afters 4 s
+  at-n : drop (comma .find .result + 1) t ≡ fieldsFrom 4 s
   at-n = after-upto t (comma .find .ensures .is) ∙ ap (after 44) at-t
 
-  at-w : drop (narrow .size-from .result .next) t ≡ afters 5 s
+  at-w : drop (narrow .size-from .result .next) t ≡ fieldsFrom 5 s
   at-w = size-next _ _ _ at-n (narrow .size-from .ensures)
 
-  at-h : drop (wide .number-from4 .result .next) t ≡ afters 6 s
+  at-h : drop (wide .number-from4 .result .next) t ≡ fieldsFrom 6 s
   at-h = number-next _ _ _ at-w (wide .number-from4 .ensures)
 
-  at-l : drop (d .size-from2 .result .next) t ≡ afters 7 s
+  at-l : drop (d .size-from2 .result .next) t ≡ fieldsFrom 7 s
   at-l = size-next _ _ _ at-h (d .size-from2 .ensures)
 
 counted : (d : tie.After-reaches) → d .reaches .result ≡ leb 8 (length (fields (s (d .before .before))))
@@ -115,7 +117,7 @@ barcode-at-requires : tie.Need-barcode-at-requires
 barcode-at-requires c κs = search needs
 
 returns-2 : tie.Need-returns-2
-unfolding barcodeReading barcodeFields barsAt pointAt
+unfolding barcodeReading barcodeFields pointOf numberAt sizeAt typeAt exactlyAt
 returns-2 c =
     let told6 = c .before in
     let told5 = told6 .before in
@@ -145,7 +147,7 @@ returns-2 c =
       size-value _ _ _ (at-n d) (narrow d .size-from .ensures),
       number-value _ _ _ (at-w d) (wide d .number-from4 .ensures),
       size-value _ _ _ (at-h d) (d .size-from2 .ensures),
-      e .is-exactly .ensures ∙ ap (exactly 66) (e .before .rest-from2 .ensures ∙ at-l d),
+      e .is-exactly .ensures ∙ ap (exactlyAt (letter "B")) (e .before .rest-from2 .ensures ∙ at-l d),
     )
     at plain)
     ∙ enough _ _ _ _ (counted (left .before)) (left .if1 .left)

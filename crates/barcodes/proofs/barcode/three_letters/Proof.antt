@@ -1,6 +1,6 @@
 -- `barcodes::barcode::three_letters` meets its contract, by its tests in turn.
 -- Assumes nothing.
-use Rattle.barcodes.specs.Barcode.{threeLetters}
+use Rattle.barcodes.specs.Letters.{threeLetters}
 use Rattle.barcodes.proofs.barcode.three_letters.Statement.{statement}
 use Rattle.barcodes.proofs.barcode.three_letters.Tie as tie
 

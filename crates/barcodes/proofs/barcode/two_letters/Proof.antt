@@ -2,7 +2,7 @@
 -- Assumes nothing.
 use borrow.Author.Needs.{needs}
 use borrow.Author.Tests.{ne-eqb}
-use Rattle.barcodes.specs.Barcode.{twoLetters}
+use Rattle.barcodes.specs.Letters.{twoLetters}
 use Rattle.barcodes.proofs.barcode.two_letters.Statement.{statement}
 use Rattle.barcodes.proofs.barcode.two_letters.Tie as tie
 

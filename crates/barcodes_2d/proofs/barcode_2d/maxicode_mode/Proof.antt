@@ -8,6 +8,7 @@ use lib.IntN.{ℤ, pos}
 use mir.Syntax.{w32}
 use mir.Val.{ofZ, toZ}
 use borrow.Author.Needs.{needs}
+use Rattle.text.specs.Ascii.{letter}
 use Rattle.numbers.proofs.IntLaws.{back32, bits-is, bits-not}
 use Rattle.numbers.specs.Int.{eqZ}
 use Rattle.barcodes_2d.specs.Barcode2d.{isMode, modeOf}
@@ -20,10 +21,10 @@ use Rattle.barcodes_2d.proofs.barcode_2d.maxicode_mode.Tie as tie
 abbrev read : tie.After-last-count → ℤ
 read d = toZ w32 (ofZ w32 (d .last-count .result))
 
-is : (d : tie.After-last-count) → read d ≡ lastCount 109 (optionsOf (d .before .before .before .args .s .now))
+is : (d : tie.After-last-count) → read d ≡ lastCount (letter "m") (optionsOf (d .before .before .before .args .s .now))
 is d = back32 (d .last-count .result) (d .last-count .ok) ∙ d .last-count .ensures
 
-other : (d : tie.Joined1) → isMode (lastCount 109 (optionsOf (d .before .before .before .before .before .args .s .now))) ≡ false
+other : (d : tie.Joined1) → isMode (lastCount (letter "m") (optionsOf (d .before .before .before .before .before .args .s .now))) ≡ false
 other d =
     let m = d .before .before in
     let r = m .last-count .result in

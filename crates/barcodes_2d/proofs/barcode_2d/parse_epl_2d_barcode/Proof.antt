@@ -2,6 +2,8 @@
 -- Assumes nothing.
 use mathlib.Core.Path.{refl, _∙_}
 use Rattle.numbers.proofs.IntLaws.{back32}
+use Rattle.parameters.specs.FieldValues.{pointOf}
+use Rattle.parameters.specs.Params.{pointAt, typeAt}
 use Rattle.parameters.proofs.ParamsLaws.{too-few, enough}
 use Rattle.parameters.proofs.PlaceLaws.{point-value, point-next}
 use Rattle.barcodes_2d.specs.Barcode2d.{barcode2dReading}
@@ -29,7 +31,7 @@ typed-2d-requires : tie.Need-typed-2d-requires
 typed-2d-requires c κs = search needs
 
 returns-2 : tie.Need-returns-2
-unfolding barcode2dReading
+unfolding barcode2dReading typeAt pointAt pointOf
 returns-2 c =
     let a = c .before .before in
     let p = a .before .before .before .before in

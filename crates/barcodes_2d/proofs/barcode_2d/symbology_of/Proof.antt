@@ -4,7 +4,8 @@ use mathlib.Core.Path.{_≡_}
 use lib.ListN.{getD}
 use borrow.Author.Needs.{needs}
 use borrow.Author.Tests.{ne-eqb}
-use Rattle.barcodes_2d.specs.Barcode2d.{letterOf, symbologyOf}
+use Rattle.barcodes_2d.specs.Letters.{letterOf}
+use Rattle.barcodes_2d.specs.Barcode2d.{symbologyOf}
 use Rattle.barcodes_2d.proofs.Barcode2dLaws.{symbology-one, symbology-other}
 use Rattle.barcodes_2d.proofs.barcode_2d.symbology_of.Statement.{statement}
 use Rattle.barcodes_2d.proofs.barcode_2d.symbology_of.Tie as tie

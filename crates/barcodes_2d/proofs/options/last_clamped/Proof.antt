@@ -1,7 +1,6 @@
 -- `barcodes_2d::options::last_clamped` meets its contract: the last value, then its number.
 -- Assumes nothing.
 use mathlib.Core.Path.{_≡_, sym, ap, _∙_}
-use mathlib.Core.List.{[]}
 use mir.Facts.{toZ-ofZ}
 use borrow.Author.Needs.{needs}
 use Rattle.numbers.proofs.IntLaws.{back32}
@@ -11,7 +10,7 @@ use Rattle.barcodes_2d.specs.declared.options.Wanted.the-variants as wan
 use Rattle.barcodes_2d.proofs.options.last_clamped.Statement.{statement}
 use Rattle.barcodes_2d.proofs.options.last_clamped.Tie as tie
 
-read : (d : tie.After-parse) → d .parse .result ≡ numberSpelled (lastOf wanted.Number (d .before .before .before .args .p) [] (optionsOf (d .before .before .before .args .s .now)))
+read : (d : tie.After-parse) → d .parse .result ≡ numberSpelled (lastOf wanted.Number (d .before .before .before .args .p) (optionsOf (d .before .before .before .args .s .now)))
 read d = d .parse .ensures ∙ ap numberSpelled (d .before .last .ensures)
 
 last-requires : tie.Need-last-requires

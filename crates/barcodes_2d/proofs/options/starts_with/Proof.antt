@@ -5,7 +5,8 @@ use native.Mathlib.Omega.{arith}
 use lib.ListN.{drop-of-length-le}
 use lib.Seq.{drop-cons}
 use borrow.Author.Needs.{needs}
-use Rattle.barcodes_2d.specs.Options.{accepted, startsWith}
+use Rattle.barcodes_2d.specs.Options.{accepted}
+use Rattle.barcodes_2d.specs.OptionSteps.{startsWith}
 use Rattle.barcodes_2d.proofs.OptionsLaws.{value-at}
 use Rattle.barcodes_2d.proofs.options.starts_with.Statement.{statement}
 use Rattle.barcodes_2d.proofs.options.starts_with.Tie as tie

@@ -5,7 +5,7 @@ use native.Mathlib.Omega.{arith}
 use lib.ListN.{drop-of-length-le}
 use lib.Seq.{drop-cons}
 use borrow.Author.Needs.{needs}
-use Rattle.barcodes_2d.specs.Options.{valueOf}
+use Rattle.barcodes_2d.specs.OptionSteps.{valueOf}
 use Rattle.barcodes_2d.proofs.options.value_len.Statement.{statement}
 use Rattle.barcodes_2d.proofs.options.value_len.Tie as tie
 

@@ -3,7 +3,8 @@
 use mathlib.Core.Path.{_≡_, sym, _∙_}
 use Rattle.numbers.proofs.IntLaws.{back32}
 use Rattle.parameters.specs.Position.{placed}
-use Rattle.draws.specs.Draw.{extentOf, drawnAt}
+use Rattle.draws.specs.Axes.{extentOf}
+use Rattle.draws.proofs.DrawLaws.{drawn-is}
 use Rattle.draws.specs.declared.draw.Extent.{Extent}
 use Rattle.draws.specs.declared.draw.Measured.the-variants.{Of}
 use borrow.Author.Needs.{needs}
@@ -60,8 +61,7 @@ enum-told : tie.Need-enum-told
 enum-told c = search needs
 
 returns : tie.Need-returns
-unfolding drawnAt
-returns c = simp (sym (across-is (c .before .before)) ∙ c .enum-told .given .1)
+returns c = rw (drawn-is _ _) (simp (sym (across-is (c .before .before)) ∙ c .enum-told .given .1))
 
 extent-of-requires-2 : tie.Need-extent-of-requires-2
 extent-of-requires-2 c κs = search needs
@@ -73,10 +73,9 @@ enum-told-2 : tie.Need-enum-told-2
 enum-told-2 c = search needs
 
 returns-2 : tie.Need-returns-2
-unfolding drawnAt
 returns-2 c =
     let e = c .before .before in
-    simp (across (on-x e), sym (down-is e) ∙ c .enum-told2 .given .1)
+    rw (drawn-is _ _) (simp (across (on-x e), sym (down-is e) ∙ c .enum-told2 .given .1))
 
 place-requires : tie.Need-place-requires
 place-requires c κs = search needs
@@ -88,20 +87,18 @@ enum-told-3 : tie.Need-enum-told-3
 enum-told-3 c = search needs
 
 returns-3 : tie.Need-returns-3
-unfolding drawnAt
 returns-3 c =
     let p = c .before .before in
-    simp (across (on-x (on-y p .before .before .before)), down (on-y p), sym (place-is p) ∙ c .enum-told3 .given .1)
+    rw (drawn-is _ _) (simp (across (on-x (on-y p .before .before .before)), down (on-y p), sym (place-is p) ∙ c .enum-told3 .given .1))
 
 same-way-requires : tie.Need-same-way-requires
 same-way-requires c κs = search needs
 
 returns-4 : tie.Need-returns-4
-unfolding drawnAt
 returns-4 c =
     let d = c .before .before .before .before in
     let p = d .before .before in
-    rw (back32 (x-of p .size) (c .before .struct-told7 .given .1 .0 .1), back32 (y-of p .size) (c .struct-told8 .given .1 .0 .1))
+    rw (drawn-is _ _, back32 (x-of p .size) (c .before .struct-told7 .given .1 .0 .1), back32 (y-of p .size) (c .struct-told8 .given .1 .0 .1))
     (simp (across (on-x (on-y p .before .before .before)), down (on-y p), sym (place-is p) ∙ d .position .given .1, c .before .before .same-way .ensures))
 
 pub drawn-at-spec : {M : Type 1} → statement M

@@ -6,7 +6,7 @@ use mir.Facts.{toZ-ofZ}
 use Rattle.numbers.specs.Int.{checked, absZ}
 use Rattle.numbers.specs.declared.int.Checked.the-variants.{Fits}
 use Rattle.numbers.proofs.IntLaws.{back32}
-use Rattle.draws.specs.Draw.{extentOf}
+use Rattle.draws.specs.Axes.{extentOf}
 use borrow.Author.Needs.{needs}
 use Rattle.draws.proofs.draw.extent_of.Statement.{statement}
 use Rattle.draws.proofs.draw.extent_of.Tie as tie

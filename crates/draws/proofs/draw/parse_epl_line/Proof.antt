@@ -7,8 +7,9 @@ use lib.Dec.{leb}
 use lib.ListN.{length, drop}
 use Rattle.text.specs.Fields.{fields}
 use Rattle.numbers.proofs.IntLaws.{back32}
-use Rattle.parameters.specs.Params.{pointAt}
-use Rattle.parameters.proofs.ParamsLaws.{too-few, enough, afters, reached}
+use Rattle.parameters.specs.FieldValues.{pointOf, fieldsFrom}
+use Rattle.parameters.specs.Params.{numberAt, sizeAt}
+use Rattle.parameters.proofs.ParamsLaws.{too-few, enough, reached}
 use Rattle.parameters.proofs.PlaceLaws.{number-value, number-next, size-value, size-next}
 use Rattle.draws.specs.Draw.{lineFields, lineReading}
 use borrow.Author.Needs.{needs}
@@ -26,13 +27,13 @@ module _ (d : tie.After-size-from) where
   abbrev s : List ℕ
   s = x .before .before .args .params .now
 
-  at-y : drop (x .number-from .result .next) s ≡ afters 1 s
+  at-y : drop (x .number-from .result .next) s ≡ fieldsFrom 1 s
   at-y = number-next _ _ _ refl (x .number-from .ensures)
 
-  at-w : drop (y .number-from2 .result .next) s ≡ afters 2 s
+  at-w : drop (y .number-from2 .result .next) s ≡ fieldsFrom 2 s
   at-w = number-next _ _ _ at-y (y .number-from2 .ensures)
 
-  at-h : drop (d .size-from .result .next) s ≡ afters 3 s
+  at-h : drop (d .size-from .result .next) s ≡ fieldsFrom 3 s
   at-h = size-next _ _ _ at-w (d .size-from .ensures)
 
 counted : (d : tie.After-reaches) → d .reaches .result ≡ leb 4 (length (fields (s (d .before .before))))
@@ -61,7 +62,7 @@ line-element-requires : tie.Need-line-element-requires
 line-element-requires c κs = search needs
 
 returns-2 : tie.Need-returns-2
-unfolding lineReading lineFields pointAt
+unfolding lineReading lineFields pointOf numberAt sizeAt
 returns-2 c =
     let told4 = c .before in
     let told3 = told4 .before in

@@ -2,10 +2,12 @@
 -- Assumes nothing.
 use mathlib.Core.Path.{refl}
 use Rattle.numbers.proofs.IntLaws.{back32}
-use Rattle.parameters.specs.Params.{pointAt}
+use Rattle.parameters.specs.FieldValues.{pointOf}
+use Rattle.parameters.specs.Params.{numberAt, sizeAt}
 use Rattle.parameters.proofs.ParamsLaws.{seen-is}
 use Rattle.parameters.proofs.PlaceLaws.{number-value, number-next, size-value, size-next}
-use Rattle.draws.specs.Draw.{cornersAt, cornersRead}
+use Rattle.draws.specs.Draw.{cornersAt}
+use Rattle.draws.specs.Axes.{cornersRead}
 use borrow.Author.Needs.{needs}
 use Rattle.draws.proofs.draw.read_corners.Statement.{statement}
 use Rattle.draws.proofs.draw.read_corners.Tie as tie
@@ -26,7 +28,7 @@ number-from-requires-4 : tie.Need-number-from-requires-4
 number-from-requires-4 c κs = search needs
 
 returns : tie.Need-returns
-unfolding cornersRead cornersAt pointAt
+unfolding cornersRead cornersAt pointOf numberAt sizeAt
 returns c =
     let told5 = c .before in
     let told4 = told5 .before in

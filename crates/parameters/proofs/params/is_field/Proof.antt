@@ -6,7 +6,8 @@ use mathlib.Core.List.{List, [], _∷_}
 use Prim.Native.Nat.{ℕ}
 use native.Mathlib.Omega.{arith}
 use Rattle.text.specs.Fields.{same}
-use Rattle.parameters.specs.Params.{exactly, alone}
+use Rattle.parameters.specs.FieldValues.{exactly}
+use Rattle.parameters.specs.Params.{typeAt, exactlyAt, alone}
 use Rattle.parameters.proofs.ParamsLaws.{alone-some, alone-exactly, same-one, same-other}
 use borrow.Author.Needs.{needs}
 use Rattle.parameters.proofs.params.is_field.Statement.{statement}
@@ -31,14 +32,14 @@ shared-slice-read-result-2 : tie.Need-shared-slice-read-result-2
 shared-slice-read-result-2 c = search needs
 
 returns-2 : tie.Need-returns-2
-unfolding exactly
+unfolding exactlyAt exactly typeAt
 returns-2 c =
     let t = c .before .before .type-at in
     let b = c .before .before .before .before .before .before .args .b in
     same-one (t .result .now) b (c .before .if2 .taken) ∙ ap (λ (l : List ℕ). same l (b ∷ [])) (t .ensures)
 
 returns-3 : tie.Need-returns-3
-unfolding exactly
+unfolding exactlyAt exactly typeAt
 returns-3 c =
     let t = c .before .type-at in
     let b = c .before .before .before .before .before .args .b in

@@ -7,10 +7,11 @@ use lib.Dec.{leb}
 use lib.ListN.{length, drop}
 use Rattle.text.specs.Fields.{fields}
 use Rattle.numbers.proofs.IntLaws.{back32}
-use Rattle.parameters.specs.Params.{pointAt}
-use Rattle.parameters.proofs.ParamsLaws.{too-few, enough, afters, reached}
+use Rattle.parameters.specs.FieldValues.{pointOf, fieldsFrom}
+use Rattle.parameters.specs.Params.{numberAt, sizeAt, exactlyAt}
+use Rattle.parameters.proofs.ParamsLaws.{too-few, enough, reached}
 use Rattle.parameters.proofs.PlaceLaws.{number-value, number-next, size-value, size-next}
-use Rattle.texts.specs.Text.{scaleAt, textFields, textReading}
+use Rattle.texts.specs.Text.{textFields, textReading}
 use borrow.Author.Needs.{needs}
 use Rattle.texts.proofs.epl_text.parse_epl_text.Statement.{statement}
 use Rattle.texts.proofs.epl_text.parse_epl_text.Tie as tie
@@ -35,22 +36,22 @@ module _ (d : tie.After-size-from2) where
   abbrev s : List ℕ
   s = x .before .before .args .params .now
 
-  at-y : drop (x .number-from .result .next) s ≡ afters 1 s
+  at-y : drop (x .number-from .result .next) s ≡ fieldsFrom 1 s
   at-y = number-next _ _ _ refl (x .number-from .ensures)
 
-  at-r : drop (y .number-from2 .result .next) s ≡ afters 2 s
+  at-r : drop (y .number-from2 .result .next) s ≡ fieldsFrom 2 s
   at-r = number-next _ _ _ at-y (y .number-from2 .ensures)
 
-  at-f : drop (r .number-from3 .result .next) s ≡ afters 3 s
+  at-f : drop (r .number-from3 .result .next) s ≡ fieldsFrom 3 s
   at-f = number-next _ _ _ at-r (r .number-from3 .ensures)
 
-  at-h : drop (f .number-from4 .result .next) s ≡ afters 4 s
+  at-h : drop (f .number-from4 .result .next) s ≡ fieldsFrom 4 s
   at-h = number-next _ _ _ at-f (f .number-from4 .ensures)
 
-  at-v : drop (h .size-from .result .next) s ≡ afters 5 s
+  at-v : drop (h .size-from .result .next) s ≡ fieldsFrom 5 s
   at-v = size-next _ _ _ at-h (h .size-from .ensures)
 
-  at-reverse : drop (d .size-from2 .result .next) s ≡ afters 6 s
+  at-reverse : drop (d .size-from2 .result .next) s ≡ fieldsFrom 6 s
   at-reverse = size-next _ _ _ at-v (d .size-from2 .ensures)
 
 counted : (d : tie.After-reaches) → d .reaches .result ≡ leb 7 (length (fields (s (d .before .before))))
@@ -91,7 +92,7 @@ text-element-requires : tie.Need-text-element-requires
 text-element-requires c κs = search needs
 
 returns-2 : tie.Need-returns-2
-unfolding textReading textFields pointAt scaleAt
+unfolding textReading textFields pointOf numberAt sizeAt exactlyAt
 returns-2 c =
     let told6 = c .before in
     let told5 = told6 .before in

@@ -12,3 +12,8 @@ spelt (string._∷_ c s) t = code c ∷ spelt s t
 
 abbrev pub ascii : String → List ℕ
 ascii s = spelt s []
+
+-- the byte of a text of one ASCII character, 0 for an empty one
+abbrev pub letter : String → ℕ
+letter string.[] = 0
+letter (string._∷_ c s) = code c
