@@ -52,7 +52,7 @@ pub enum Symbology {
 }
 
 // Types of one character.
-pub fn one_letter(a: u8) -> Symbology
+pub(crate) fn one_letter(a: u8) -> Symbology
     ensures { λ r. ⌜ r ≡ oneLetter a ⌝ }
 {
     match a {
@@ -65,7 +65,7 @@ pub fn one_letter(a: u8) -> Symbology
 }
 
 // Types of two characters, the first of which is 1: `1A`, `1B`, `1C`, `1E`.
-pub fn code_128_letter(b: u8) -> Symbology
+pub(crate) fn code_128_letter(b: u8) -> Symbology
     ensures { λ r. ⌜ r ≡ code128Letter b ⌝ }
 {
     if (b == b'A') | (b == b'B') | (b == b'C') {
@@ -78,7 +78,7 @@ pub fn code_128_letter(b: u8) -> Symbology
 }
 
 // Types of two characters: `1A`, `1B`, `1C`, `1E`, `2C`, `2D`, `3C`.
-pub fn two_letters(a: u8, b: u8) -> Symbology
+pub(crate) fn two_letters(a: u8, b: u8) -> Symbology
     ensures { λ r. ⌜ r ≡ twoLetters a b ⌝ }
 {
     if a == b'1' {
@@ -94,7 +94,7 @@ pub fn two_letters(a: u8, b: u8) -> Symbology
 }
 
 // Types of three characters: `E30`, `E80`, `UA0`, `UE0`.
-pub fn three_letters(a: u8, b: u8, c: u8) -> Symbology
+pub(crate) fn three_letters(a: u8, b: u8, c: u8) -> Symbology
     ensures { λ r. ⌜ r ≡ threeLetters a b c ⌝ }
 {
     if (a == b'E') & (b == b'3') & (c == b'0') {
@@ -113,7 +113,7 @@ pub fn three_letters(a: u8, b: u8, c: u8) -> Symbology
 }
 
 // The type that t spells.
-pub fn symbology_of(t: &[u8]) -> Symbology
+pub(crate) fn symbology_of(t: &[u8]) -> Symbology
     ensures { λ r. ⌜ r ≡ symbologyOf (now (t .entry)) ⌝ }
 {
     if t.len() == 1 {
@@ -136,7 +136,7 @@ fn symbology_upto(t: &[u8], n: usize) -> Symbology
     symbology_of(trim(&t[..n]))
 }
 
-pub fn is_listed(s: Symbology) -> bool
+pub(crate) fn is_listed(s: Symbology) -> bool
     ensures { λ r. ⌜ r ≡ isListed s ⌝ }
 {
     match s {
@@ -168,7 +168,7 @@ pub struct Barcode {
 }
 
 // Code 128.
-pub fn code_128(mode: BarcodeMode, b: Barcode) -> Reading
+pub(crate) fn code_128(mode: BarcodeMode, b: Barcode) -> Reading
     ensures { λ r. ⌜ r ≡ code128 mode b ⌝ }
 {
     let orientation = b.orientation;
@@ -189,7 +189,7 @@ pub fn code_128(mode: BarcodeMode, b: Barcode) -> Reading
 }
 
 // 2 of 5, with a check digit or without.
-pub fn interleaved(check: bool, b: Barcode) -> Reading
+pub(crate) fn interleaved(check: bool, b: Barcode) -> Reading
     ensures { λ r. ⌜ r ≡ interleaved check b ⌝ }
 {
     let orientation = b.orientation;
@@ -211,7 +211,7 @@ pub fn interleaved(check: bool, b: Barcode) -> Reading
 }
 
 // Code 39, with a check digit or without.
-pub fn code_39(check: bool, b: Barcode) -> Reading
+pub(crate) fn code_39(check: bool, b: Barcode) -> Reading
     ensures { λ r. ⌜ r ≡ code39 check b ⌝ }
 {
     let orientation = b.orientation;
@@ -233,7 +233,7 @@ pub fn code_39(check: bool, b: Barcode) -> Reading
 }
 
 // EAN-13.
-pub fn ean_13(b: Barcode) -> Reading
+pub(crate) fn ean_13(b: Barcode) -> Reading
     ensures { λ r. ⌜ r ≡ ean13 b ⌝ }
 {
     let orientation = b.orientation;
@@ -253,7 +253,7 @@ pub fn ean_13(b: Barcode) -> Reading
 }
 
 // EAN-8.
-pub fn ean_8(b: Barcode) -> Reading
+pub(crate) fn ean_8(b: Barcode) -> Reading
     ensures { λ r. ⌜ r ≡ ean8 b ⌝ }
 {
     let orientation = b.orientation;
@@ -273,7 +273,7 @@ pub fn ean_8(b: Barcode) -> Reading
 }
 
 // UPC-A.
-pub fn upc_a(b: Barcode) -> Reading
+pub(crate) fn upc_a(b: Barcode) -> Reading
     ensures { λ r. ⌜ r ≡ upcA b ⌝ }
 {
     let orientation = b.orientation;
@@ -293,7 +293,7 @@ pub fn upc_a(b: Barcode) -> Reading
 }
 
 // UPC-E.
-pub fn upc_e(b: Barcode) -> Reading
+pub(crate) fn upc_e(b: Barcode) -> Reading
     ensures { λ r. ⌜ r ≡ upcE b ⌝ }
 {
     let orientation = b.orientation;
@@ -313,7 +313,7 @@ pub fn upc_e(b: Barcode) -> Reading
 }
 
 // The bar code of a listed type.
-pub fn barcode_element(s: Symbology, b: Barcode) -> Reading
+pub(crate) fn barcode_element(s: Symbology, b: Barcode) -> Reading
     ensures { λ r. ⌜ r ≡ barcodeElement s b ⌝ }
 {
     match s {
@@ -329,7 +329,7 @@ pub fn barcode_element(s: Symbology, b: Barcode) -> Reading
 }
 
 // The bar code at a reference: 7, then 13.
-pub fn barcode_at(f: BarcodeFields, span: DataSpan, reference: LabelPosition) -> Reading
+pub(crate) fn barcode_at(f: BarcodeFields, span: DataSpan, reference: LabelPosition) -> Reading
     ensures { λ r. ⌜ r ≡ barcodeAt f span reference ⌝ }
 {
     let s = f.symbology;

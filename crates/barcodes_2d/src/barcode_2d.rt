@@ -45,7 +45,7 @@ pub enum Symbology2d {
 }
 
 // The type that t spells: `A`, `D`, `M`, `P`, `Q`.
-pub fn symbology_of(t: &[u8]) -> Symbology2d
+pub(crate) fn symbology_of(t: &[u8]) -> Symbology2d
     ensures { λ r. ⌜ r ≡ symbologyOf (now (t .entry)) ⌝ }
 {
     if t.len() != 1 {
@@ -63,7 +63,7 @@ pub fn symbology_of(t: &[u8]) -> Symbology2d
 }
 
 // 1 to 99 error correction, 101 to 104 compact layers, 201 to 232 full layers, 300 a rune; any other is 0.
-pub fn aztec_size(n: i32) -> i32
+pub(crate) fn aztec_size(n: i32) -> i32
     ensures { λ r. ⌜ r ≡ aztecSize n ⌝ }
 {
     match n {
@@ -72,7 +72,7 @@ pub fn aztec_size(n: i32) -> i32
     }
 }
 
-pub fn aztec_options(s: &[u8]) -> BarcodeAztec
+pub(crate) fn aztec_options(s: &[u8]) -> BarcodeAztec
     ensures { λ r. ⌜ r ≡ aztecOf (now (s .entry)) ⌝ }
 {
     let magnification = last_clamped(
@@ -89,7 +89,7 @@ pub fn aztec_options(s: &[u8]) -> BarcodeAztec
     }
 }
 
-pub fn datamatrix_options(s: &[u8]) -> BarcodeDatamatrix
+pub(crate) fn datamatrix_options(s: &[u8]) -> BarcodeDatamatrix
     ensures { λ r. ⌜ r ≡ datamatrixOf (now (s .entry)) ⌝ }
 {
     let height = last_clamped(
@@ -109,7 +109,7 @@ pub fn datamatrix_options(s: &[u8]) -> BarcodeDatamatrix
 }
 
 // The mode that the last `m` gives where it is 2, 3, 4 or 6; else the automatic one.
-pub fn maxicode_mode(s: &[u8], data: &[u8]) -> i32
+pub(crate) fn maxicode_mode(s: &[u8], data: &[u8]) -> i32
     ensures { λ r. ⌜ r ≡ modeOf (now (s .entry)) (now («data» .entry)) ⌝ }
 {
     let m = last_count(s, b'm');
@@ -119,7 +119,7 @@ pub fn maxicode_mode(s: &[u8], data: &[u8]) -> i32
     }
 }
 
-pub fn pdf417_module_width(s: &[u8]) -> i32
+pub(crate) fn pdf417_module_width(s: &[u8]) -> i32
     ensures { λ r. ⌜ r ≡ pdf417ModuleWidth (now (s .entry)) ⌝ }
 {
     last_clamped(
@@ -132,7 +132,7 @@ pub fn pdf417_module_width(s: &[u8]) -> i32
 }
 
 // 4 module widths where `y` gives none.
-pub fn pdf417_row_height(s: &[u8]) -> i32
+pub(crate) fn pdf417_row_height(s: &[u8]) -> i32
     ensures { λ r. ⌜ r ≡ pdf417RowHeight (now (s .entry)) ⌝ }
 {
     let module_width = pdf417_module_width(s);
@@ -146,14 +146,14 @@ pub fn pdf417_row_height(s: &[u8]) -> i32
 }
 
 // `t1`, and no other value.
-pub fn pdf417_truncate(s: &[u8]) -> bool
+pub(crate) fn pdf417_truncate(s: &[u8]) -> bool
     ensures { λ r. ⌜ r ≡ pdf417Truncate (now (s .entry)) ⌝ }
 {
     let v = last(s, b't', Wanted::Any);
     if v.len() == 1 { v[0] == b'1' } else { false }
 }
 
-pub fn pdf417_options(s: &[u8]) -> BarcodePdf417
+pub(crate) fn pdf417_options(s: &[u8]) -> BarcodePdf417
     ensures { λ r. ⌜ r ≡ pdf417Of (now (s .entry)) ⌝ }
 {
     let orientation = epl_rotation(last_number(s, b'o', BarcodePdf417::ROTATION));
@@ -181,7 +181,7 @@ pub fn pdf417_options(s: &[u8]) -> BarcodePdf417
 }
 
 // The level of the last `e` that gives one: M where none does.
-pub fn qr_level(s: &[u8]) -> QrErrorCorrectionLevel
+pub(crate) fn qr_level(s: &[u8]) -> QrErrorCorrectionLevel
     ensures { λ r. ⌜ r ≡ levelOf (now (s .entry)) ⌝ }
 {
     let v = last(s, b'e', Wanted::Level);
@@ -197,7 +197,7 @@ pub fn qr_level(s: &[u8]) -> QrErrorCorrectionLevel
     }
 }
 
-pub fn qr_options(s: &[u8]) -> BarcodeQr
+pub(crate) fn qr_options(s: &[u8]) -> BarcodeQr
     ensures { λ r. ⌜ r ≡ qrOf (now (s .entry)) ⌝ }
 {
     let magnification = last_clamped(
@@ -211,7 +211,7 @@ pub fn qr_options(s: &[u8]) -> BarcodeQr
 }
 
 // One function a type: its parameters, and where it stands.
-pub fn aztec(s: &[u8], at: Placed, span: DataSpan) -> Reading
+pub(crate) fn aztec(s: &[u8], at: Placed, span: DataSpan) -> Reading
     ensures { λ r. ⌜ r ≡ aztecReading (now (s .entry)) at span ⌝ }
 {
     let Placed::At(position) = at else {
@@ -225,7 +225,7 @@ pub fn aztec(s: &[u8], at: Placed, span: DataSpan) -> Reading
     }))
 }
 
-pub fn datamatrix(s: &[u8], at: Placed, span: DataSpan) -> Reading
+pub(crate) fn datamatrix(s: &[u8], at: Placed, span: DataSpan) -> Reading
     ensures { λ r. ⌜ r ≡ datamatrixReading (now (s .entry)) at span ⌝ }
 {
     let Placed::At(position) = at else {
@@ -239,7 +239,7 @@ pub fn datamatrix(s: &[u8], at: Placed, span: DataSpan) -> Reading
     }))
 }
 
-pub fn maxicode(s: &[u8], data: &[u8], at: Placed, span: DataSpan) -> Reading
+pub(crate) fn maxicode(s: &[u8], data: &[u8], at: Placed, span: DataSpan) -> Reading
     ensures { λ r. ⌜ r ≡ maxicodeReading (now (s .entry)) (now («data» .entry)) at span ⌝ }
 {
     let Placed::At(position) = at else {
@@ -253,7 +253,7 @@ pub fn maxicode(s: &[u8], data: &[u8], at: Placed, span: DataSpan) -> Reading
     }))
 }
 
-pub fn pdf417(s: &[u8], at: Placed, span: DataSpan) -> Reading
+pub(crate) fn pdf417(s: &[u8], at: Placed, span: DataSpan) -> Reading
     ensures { λ r. ⌜ r ≡ pdf417Reading (now (s .entry)) at span ⌝ }
 {
     let Placed::At(position) = at else {
@@ -268,7 +268,7 @@ pub fn pdf417(s: &[u8], at: Placed, span: DataSpan) -> Reading
 }
 
 // 9 where the decoded data is over its limit, then 13.
-pub fn qr(s: &[u8], data: &[u8], at: Placed, span: DataSpan) -> Reading
+pub(crate) fn qr(s: &[u8], data: &[u8], at: Placed, span: DataSpan) -> Reading
     ensures { λ r. ⌜ r ≡ qrReading (now (s .entry)) (now («data» .entry)) at span ⌝ }
 {
     let count = decoded_len(data, BarcodeQr::DATA_MAX + 1);
@@ -289,7 +289,13 @@ pub fn qr(s: &[u8], data: &[u8], at: Placed, span: DataSpan) -> Reading
 }
 
 // The bar code of a type, with its parameters s, its data, and where it stands.
-pub fn barcode_2d_at(t: Symbology2d, s: &[u8], data: &[u8], at: Placed, span: DataSpan) -> Reading
+pub(crate) fn barcode_2d_at(
+    t: Symbology2d,
+    s: &[u8],
+    data: &[u8],
+    at: Placed,
+    span: DataSpan,
+) -> Reading
     ensures { λ r. ⌜ r ≡ barcode2dAt t (now (s .entry)) (now («data» .entry)) at span ⌝ }
 {
     match t {

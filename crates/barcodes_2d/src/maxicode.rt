@@ -8,7 +8,7 @@ use bytes::utf8::part_len;
 use bytes::utf8::shown_len;
 
 // s starts with 5b 29 3e 1e 30 31 1d.
-pub fn header_at(s: &[u8]) -> bool
+pub(crate) fn header_at(s: &[u8]) -> bool
     ensures { λ r. ⌜ r ≡ headerAt (now (s .entry)) ⌝ }
 {
     if s.len() < 7 {
@@ -24,7 +24,7 @@ pub fn header_at(s: &[u8]) -> bool
 }
 
 // The place of the first header, or the length.
-pub fn header_place(s: &[u8]) -> usize
+pub(crate) fn header_place(s: &[u8]) -> usize
     ensures { λ r. ⌜ r ≡ headerPlace (now (s .entry)) ⌝ }
 {
     let mut i = 0;
@@ -35,7 +35,7 @@ pub fn header_place(s: &[u8]) -> usize
 }
 
 // The decoded s is digits from its byte 6 on, and has such a byte.
-pub fn is_postal(s: &[u8]) -> bool
+pub(crate) fn is_postal(s: &[u8]) -> bool
     ensures { λ r. ⌜ r ≡ postal (decode (now (s .entry))) ⌝ }
 {
     let mut skip: usize = 6;
@@ -58,7 +58,7 @@ pub fn is_postal(s: &[u8]) -> bool
 }
 
 // The mode for data with no usable `m`: 2 where a postal code of digits stands before the header, 3 where another does, else 4.
-pub fn auto_maxicode_mode(data: &[u8]) -> i32
+pub(crate) fn auto_maxicode_mode(data: &[u8]) -> i32
     ensures { λ r. ⌜ r ≡ autoMode (decode (now («data» .entry))) ⌝ }
 {
     let p = header_place(data);

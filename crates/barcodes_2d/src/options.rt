@@ -14,7 +14,7 @@ use numbers::number::or_default;
 use numbers::number::parse;
 
 // How many digits s starts with.
-pub fn digit_run(s: &[u8]) -> usize
+pub(crate) fn digit_run(s: &[u8]) -> usize
     ensures { λ r. ⌜ Leading (front isDigit (now (s .entry))) (now (s .entry)) r ⌝ }
 {
     let mut i = 0;
@@ -25,7 +25,7 @@ pub fn digit_run(s: &[u8]) -> usize
 }
 
 // How long the value of a letter is, where s is all that follows the letter.
-pub fn value_len(s: &[u8]) -> usize
+pub(crate) fn value_len(s: &[u8]) -> usize
     ensures { λ r. ⌜ Leading (valueOf (now (s .entry))) (now (s .entry)) r ⌝ }
 {
     if s.len() == 0 {
@@ -38,7 +38,7 @@ pub fn value_len(s: &[u8]) -> usize
 }
 
 // How many bytes the reading goes on by: the first, and the letter behind it where both are letters.
-pub fn option_len(s: &[u8]) -> usize
+pub(crate) fn option_len(s: &[u8]) -> usize
     ensures { λ r. ⌜ OptionLen (now (s .entry)) r ⌝ }
 {
     if s.len() < 2 {
@@ -59,7 +59,7 @@ pub enum Wanted {
     Level,
 }
 
-pub fn is_number(v: &[u8]) -> bool
+pub(crate) fn is_number(v: &[u8]) -> bool
     ensures { λ r. ⌜ r ≡ isNumber (now (v .entry)) ⌝ }
 {
     match parse(v) {
@@ -68,7 +68,7 @@ pub fn is_number(v: &[u8]) -> bool
     }
 }
 
-pub fn is_level(v: &[u8]) -> bool
+pub(crate) fn is_level(v: &[u8]) -> bool
     ensures { λ r. ⌜ r ≡ isLevel (now (v .entry)) ⌝ }
 {
     if v.len() == 0 {
@@ -78,7 +78,7 @@ pub fn is_level(v: &[u8]) -> bool
     (b == b'L') | (b == b'M') | (b == b'Q') | (b == b'H')
 }
 
-pub fn accepts(wanted: Wanted, v: &[u8]) -> bool
+pub(crate) fn accepts(wanted: Wanted, v: &[u8]) -> bool
     ensures { λ r. ⌜ r ≡ accepted wanted (now (v .entry)) ⌝ }
 {
     match wanted {
@@ -89,7 +89,7 @@ pub fn accepts(wanted: Wanted, v: &[u8]) -> bool
 }
 
 // s starts with the parameter p, and its value counts.
-pub fn starts_with(s: &[u8], p: u8, wanted: Wanted) -> bool
+pub(crate) fn starts_with(s: &[u8], p: u8, wanted: Wanted) -> bool
     ensures { λ r. ⌜ r ≡ startsWith wanted p (now (s .entry)) ⌝ }
 {
     if s.len() == 0 {
@@ -103,7 +103,7 @@ pub fn starts_with(s: &[u8], p: u8, wanted: Wanted) -> bool
 }
 
 // The value of the last parameter p that counts: empty where there is none.
-pub fn last(s: &[u8], p: u8, wanted: Wanted) -> &[u8]
+pub(crate) fn last(s: &[u8], p: u8, wanted: Wanted) -> &[u8]
     ensures { λ r. ⌜ now r ≡ lastOf wanted p (optionsOf (now (s .entry))) ⌝ }
 {
     let mut from = 0;
@@ -120,28 +120,28 @@ pub fn last(s: &[u8], p: u8, wanted: Wanted) -> &[u8]
 }
 
 // The number of the last parameter p: 0 where it is none, or there is no p.
-pub fn last_count(s: &[u8], p: u8) -> i32
+pub(crate) fn last_count(s: &[u8], p: u8) -> i32
     ensures { λ r. ⌜ r ≡ lastCount p (optionsOf (now (s .entry))) ⌝ }
 {
     or_default(parse(last(s, p, Wanted::Any)), 0)
 }
 
 // The number of the last parameter p that has one: the default where none does.
-pub fn last_number(s: &[u8], p: u8, default: i32) -> i32
+pub(crate) fn last_number(s: &[u8], p: u8, default: i32) -> i32
     ensures { λ r. ⌜ r ≡ lastNumber p default (optionsOf (now (s .entry))) ⌝ }
 {
     or_default(parse(last(s, p, Wanted::Number)), default)
 }
 
 // v, or the nearest of lo and hi.
-pub fn clamp(v: i32, lo: i32, hi: i32) -> i32
+pub(crate) fn clamp(v: i32, lo: i32, hi: i32) -> i32
     ensures { λ r. ⌜ r ≡ clamped lo hi v ⌝ }
 {
     min(max(v, lo), hi)
 }
 
 // The last number of p within lo to hi: the default, as it is, where there is none.
-pub fn last_clamped(s: &[u8], p: u8, default: i32, lo: i32, hi: i32) -> i32
+pub(crate) fn last_clamped(s: &[u8], p: u8, default: i32, lo: i32, hi: i32) -> i32
     ensures { λ r. ⌜ r ≡ lastClamped p default lo hi (optionsOf (now (s .entry))) ⌝ }
 {
     match parse(last(s, p, Wanted::Number)) {

@@ -26,7 +26,11 @@ pub struct LineFields {
 }
 
 // A line at a reference, or 13.
-pub fn line_element(f: LineFields, line_color: LineColor, reference: LabelPosition) -> Reading
+pub(crate) fn line_element(
+    f: LineFields,
+    line_color: LineColor,
+    reference: LabelPosition,
+) -> Reading
     ensures { λ r. ⌜ r ≡ lineElement f «line_color» reference ⌝ }
 {
     let at = f.at;
@@ -78,7 +82,7 @@ pub struct CornersRead {
 }
 
 // x1, y1, thickness, x2, y2.
-pub fn read_corners(s: &[u8]) -> CornersRead
+pub(crate) fn read_corners(s: &[u8]) -> CornersRead
     ensures { λ r. ⌜ r ≡ cornersRead (now (s .entry)) ⌝ }
 {
     let x = number_from(s, 0, 0);
@@ -119,7 +123,7 @@ pub enum Measured {
 }
 
 // The difference and its absolute value must have 32 bits.
-pub fn extent_of(a: i32, b: i32) -> Measured
+pub(crate) fn extent_of(a: i32, b: i32) -> Measured
     ensures { λ r. ⌜ r ≡ extentOf a b ⌝ }
 {
     let Checked::Fits(d) = checked_sub(b, a) else {
@@ -149,7 +153,7 @@ pub enum Cornered {
     Outside,
 }
 
-pub fn drawn_at(c: Corners, reference: LabelPosition) -> Cornered
+pub(crate) fn drawn_at(c: Corners, reference: LabelPosition) -> Cornered
     ensures { λ r. ⌜ r ≡ drawnAt c reference ⌝ }
 {
     let a = c.first;
@@ -172,7 +176,7 @@ pub fn drawn_at(c: Corners, reference: LabelPosition) -> Cornered
 }
 
 // The differences along both axes are both positive, both negative or both zero: ax and ay say that they rise, bx and by that they fall.
-pub fn same_way(ax: bool, bx: bool, ay: bool, by: bool) -> bool
+pub(crate) fn same_way(ax: bool, bx: bool, ay: bool, by: bool) -> bool
     ensures { λ r. ⌜ r ≡ sameWay ax bx ay by ⌝ }
 {
     (ax & ay) | (bx & by) | (!ax & !bx & !ay & !by)

@@ -71,7 +71,7 @@ pub struct Answer {
 }
 
 // Kind, position and data, without the fields of the kind.
-pub fn placed(kind: u8, p: LabelPosition, d: DataSpan) -> Element
+pub(crate) fn placed(kind: u8, p: LabelPosition, d: DataSpan) -> Element
     ensures { λ r. ⌜ r ≡ placed kind p d ⌝ }
 {
     Element {
@@ -105,7 +105,13 @@ pub fn placed(kind: u8, p: LabelPosition, d: DataSpan) -> Element
 }
 
 // A bar code with bars, without its sizes.
-pub fn barred(kind: u8, p: LabelPosition, o: FieldOrientation, line: bool, d: DataSpan) -> Element
+pub(crate) fn barred(
+    kind: u8,
+    p: LabelPosition,
+    o: FieldOrientation,
+    line: bool,
+    d: DataSpan,
+) -> Element
     ensures { λ r. ⌜ r ≡ barred kind p o line d ⌝ }
 {
     let mut a = placed(kind, p, d);
@@ -126,7 +132,7 @@ fn nothing() -> Element
 }
 
 // A print, a clear, the end or a refusal.
-pub fn event(kind: u8, number: u8, place: usize, count: usize, next: WalkState) -> Answer
+pub(crate) fn event(kind: u8, number: u8, place: usize, count: usize, next: WalkState) -> Answer
     ensures { λ r. ⌜ r ≡ event kind number place count next ⌝ }
 {
     let element = nothing();
@@ -141,7 +147,7 @@ pub fn event(kind: u8, number: u8, place: usize, count: usize, next: WalkState) 
 }
 
 // An element, as a step answers it.
-pub fn answered(element: Element, next: WalkState) -> Answer
+pub(crate) fn answered(element: Element, next: WalkState) -> Answer
     ensures { λ r. ⌜ r ≡ answered element next ⌝ }
 {
     Answer {

@@ -16,7 +16,7 @@ use parameters::position::Placed;
 use parameters::position::place;
 
 // An ASCII blank other than LF.
-pub fn is_line_blank(b: u8) -> bool
+pub(crate) fn is_line_blank(b: u8) -> bool
     ensures { λ r. ⌜ r ≡ isLineBlank b ⌝ }
 {
     (b == 0x20) | (b == 0x09) | (b == 0x0c) | (b == 0x0d)
@@ -59,14 +59,14 @@ pub fn opens_gw(s: &[u8]) -> bool
 }
 
 // No comma and no LF.
-pub fn in_field(b: u8) -> bool
+pub(crate) fn in_field(b: u8) -> bool
     ensures { λ r. ⌜ r ≡ inField b ⌝ }
 {
     (b != b',') & (b != 10)
 }
 
 // How far the first header field goes: up to a comma, an LF or the end.
-pub fn header_field_len(t: &[u8]) -> usize
+pub(crate) fn header_field_len(t: &[u8]) -> usize
     ensures { λ r. ⌜ FieldLen (now (t .entry)) r ⌝ }
 {
     let mut i = 0;

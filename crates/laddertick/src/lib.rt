@@ -1,5 +1,43 @@
-// The host's entry points: a walk a step at a time, the listing of a file, and its normalised text. What is claimed of them stands in specs/Claims.antt.
+// The host's entry points: a walk a step at a time, the listing of a file, and its normalised text, with every type that a host is handed. What is claimed of them
+// stands in specs/Claims.antt.
+pub use elements::Barcode2of5;
+pub use elements::Barcode2of5WithData;
+pub use elements::Barcode39;
+pub use elements::Barcode39WithData;
+pub use elements::Barcode128;
+pub use elements::Barcode128WithData;
+pub use elements::BarcodeAztec;
+pub use elements::BarcodeAztecWithData;
+pub use elements::BarcodeDatamatrix;
+pub use elements::BarcodeDatamatrixWithData;
+pub use elements::BarcodeEan8;
+pub use elements::BarcodeEan8WithData;
+pub use elements::BarcodeEan13;
+pub use elements::BarcodeEan13WithData;
+pub use elements::BarcodeMode;
+pub use elements::BarcodePdf417;
+pub use elements::BarcodePdf417WithData;
+pub use elements::BarcodeQr;
+pub use elements::BarcodeQrWithData;
+pub use elements::BarcodeUca;
+pub use elements::BarcodeUcaWithData;
+pub use elements::BarcodeUcpe;
+pub use elements::BarcodeUcpeWithData;
+pub use elements::DataSpan;
+pub use elements::FieldOrientation;
+pub use elements::FontInfo;
+pub use elements::GraphicBox;
+pub use elements::GraphicDiagonalLine;
+pub use elements::GraphicField;
+pub use elements::LabelElement;
+pub use elements::LabelPosition;
+pub use elements::LineColor;
+pub use elements::Maxicode;
+pub use elements::MaxicodeWithData;
+pub use elements::QrErrorCorrectionLevel;
+pub use elements::TextField;
 pub use elements::filled::Filled;
+pub use elements::refusal::Refusal;
 pub use elements::walk_state::WalkState;
 pub use elements::walk_state::start;
 pub use format::normalise::normalise;

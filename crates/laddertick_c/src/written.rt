@@ -6,7 +6,7 @@ use decoding::written::Written;
 use laddertick::Filled;
 
 // What `list` or `normalise` answered.
-pub fn of_filled(a: Filled) -> Written
+pub(crate) fn of_filled(a: Filled) -> Written
     ensures { λ r. ⌜ givenFlat r ≡ givenOf a ⌝ }
 {
     match a {

@@ -59,21 +59,21 @@ pub struct FieldReader<'a> {
     pub at: usize,
 }
 
-pub fn new<'a>(src: &'a [u8], at: usize) -> FieldReader<'a>
+pub(crate) fn new<'a>(src: &'a [u8], at: usize) -> FieldReader<'a>
     ensures { λ r. ⌜ (r .src ≡ src .entry) × (r .at ≡ at) ⌝ }
 {
     FieldReader { src, at }
 }
 
 // The number in the next field, or the default, and the place of what follows.
-pub fn next_number<'a>(r: FieldReader<'a>, default: i32) -> Numbered
+pub(crate) fn next_number<'a>(r: FieldReader<'a>, default: i32) -> Numbered
     ensures { λ n. ⌜ n ≡ numberFrom default (now (r .entry .src)) (r .entry .at) ⌝ }
 {
     number_at_place(r.src, r.at, default)
 }
 
 // What stands from the next field on.
-pub fn rest<'a>(r: FieldReader<'a>) -> &'a [u8]
+pub(crate) fn rest<'a>(r: FieldReader<'a>) -> &'a [u8]
     ensures { λ t. ⌜ now t ≡ drop (r .entry .at) (now (r .entry .src)) ⌝ }
 {
     rest_at_place(r.src, r.at)

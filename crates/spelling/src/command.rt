@@ -30,28 +30,28 @@ pub enum Command {
 }
 
 // The byte at i, or 0 past the end.
-pub fn byte_at(t: &[u8], i: usize) -> u8
+pub(crate) fn byte_at(t: &[u8], i: usize) -> u8
     ensures { λ r. ⌜ r ≡ getD (now (t .entry)) i 0 ⌝ }
 {
     if i < t.len() { t[i] } else { 0 }
 }
 
 // `R` and a digit.
-pub fn is_epl_reference_point(t: &[u8]) -> bool
+pub(crate) fn is_epl_reference_point(t: &[u8]) -> bool
     ensures { λ r. ⌜ r ≡ isReference (now (t .entry)) ⌝ }
 {
     (byte_at(t, 0) == b'R') & is_digit(byte_at(t, 1))
 }
 
 // `P`, or `P` and digits alone.
-pub fn is_epl_print_command(t: &[u8]) -> bool
+pub(crate) fn is_epl_print_command(t: &[u8]) -> bool
     ensures { λ r. ⌜ r ≡ isPrint (now (t .entry)) ⌝ }
 {
     (byte_at(t, 0) == b'P') & all_digits(tail(t))
 }
 
 // An `L` and the byte b: `LO`, `LW`, `LS`.
-pub fn line_command(b: u8) -> Command
+pub(crate) fn line_command(b: u8) -> Command
     ensures { λ r. ⌜ r ≡ commandOf (spelt "L" (b ∷ [])) ⌝ }
 {
     match b {

@@ -31,7 +31,7 @@ pub struct TextFields {
 }
 
 // The text at a reference, or 13.
-pub fn text_element(f: TextFields, span: DataSpan, reference: LabelPosition) -> Reading
+pub(crate) fn text_element(f: TextFields, span: DataSpan, reference: LabelPosition) -> Reading
     ensures { λ r. ⌜ r ≡ textElement f span reference ⌝ }
 {
     let at = f.at;

@@ -18,7 +18,7 @@ pub enum Scaled {
 }
 
 // The cell of a font; that of font 1 for any other number.
-pub fn epl_font_size(font_num: i32) -> Cell
+pub(crate) fn epl_font_size(font_num: i32) -> Cell
     ensures { λ r. ⌜ r ≡ cellOf «font_num» ⌝ }
 {
     match font_num {
@@ -46,14 +46,14 @@ pub fn epl_font_size(font_num: i32) -> Cell
 }
 
 // height × across / height, each step one rounding.
-pub fn text_width(height: i32, across: i32) -> f64
+pub(crate) fn text_width(height: i32, across: i32) -> f64
     ensures { λ r. ⌜ r ≡ widthOf height across ⌝ }
 {
     (height as f64) * (across as f64) / (height as f64)
 }
 
 // A text's size and rotation. With equal multipliers it is as wide as high.
-pub fn font_info(font_num: i32, h_mult: i32, v_mult: i32, rotation: i32) -> Scaled
+pub(crate) fn font_info(font_num: i32, h_mult: i32, v_mult: i32, rotation: i32) -> Scaled
     ensures { λ r. ⌜ r ≡ fontOf «font_num» «h_mult» «v_mult» rotation ⌝ }
 {
     let cell = epl_font_size(font_num);
