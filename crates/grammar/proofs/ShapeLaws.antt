@@ -8,7 +8,8 @@ use lib.Dec.{eqb, leb, ltb}
 use lib.IntN.{ℤ, _+ℤ_, _-ℤ_}
 use lib.ListN.{length, take, drop}
 use Rattle.text.specs.Blank.{trim}
-use Rattle.text.specs.Fields.{fields, field, quoted}
+use Rattle.text.specs.Fields.{fields, field, quoted, same}
+use Rattle.text.specs.Table.{Row, row, meaning}
 use Rattle.text.specs.Utf8.{decode}
 use Rattle.text.proofs.BoolLaws.{test, and-both}
 use Rattle.numbers.specs.Int.{in32, minZ, absZ}
@@ -41,7 +42,7 @@ use Rattle.barcodes.specs.Barcode.{isListed, barcodeFields, code128, interleave
 use Rattle.barcodes.proofs.BarcodeLaws.{listed-is}
 use Rattle.barcodes_2d.specs.declared.barcode_2d.Symbology2d.{Symbology2d}
 use Rattle.barcodes_2d.specs.declared.barcode_2d.Symbology2d.the-variants as two
-use Rattle.barcodes_2d.specs.Barcode2d.{symbologyOf, aztecReading, datamatrixReading, maxicodeReading, pdf417Reading, qrReading, barcode2dAt, barcode2dReading}
+use Rattle.barcodes_2d.specs.Barcode2d.{symbologies2d, symbologyOf, aztecReading, datamatrixReading, maxicodeReading, pdf417Reading, qrReading, barcode2dAt, barcode2dReading}
 use Rattle.spelling.specs.declared.command.Command.{Command}
 use Rattle.spelling.specs.declared.command.Command.the-variants.{Clear, Reference, Data, Line, Diagonal, Box, Print, Other}
 use Rattle.spelling.specs.declared.command.DataCommand.{DataCommand}
@@ -53,7 +54,7 @@ use Rattle.grammar.specs.Units.{EplUnit, block, line, last, number, Stan
 use Rattle.grammar.specs.WellFormed.{dataCounted, dataTyped, dataSized, wellFormedAs, wellFormed}
 use Rattle.grammar.specs.Epl.{actOf, blockSays, acts}
 use Rattle.grammar.specs.Ranges.{sums, dataSizes, between, cornerSizes, sizesAs, sizesOf}
-use Rattle.grammar.specs.Shapes.{kindOf, placeOf, barKind, matrixKind, dataKind, kindAs, kindBy, Shape}
+use Rattle.grammar.specs.Shapes.{kindOf, placeOf, barKinds, matrixKinds, dataKind, kindAs, kindBy, Shape}
 use Rattle.grammar.proofs.LineFaultLaws.{faultless}
 use Rattle.grammar.proofs.SpanLaws.{act-yields}
 
@@ -142,6 +143,41 @@ shaped-a s d r =
     shaped-cond (ltb (length (fields s)) 7) refusal.TextFields 0x01 (dataSizes command.Text s r) _
     (shaped-text (number (field s 0)) (number (field s 1)) r _ f d (fontOf (f .font) (f .scale .«h_mult») (f .scale .«v_mult») (f .rotation)))
 
+-- ---- kinds by the readers' tables
+abbrev kindsBy : {A : Type 0} → (A → ℕ) → List (Row A) → List (Row ℕ)
+kindsBy g [] = []
+kindsBy g (r ∷ rs) = row (r .text) (g (r .means)) ∷ kindsBy g rs
+
+kind-means : {A : Type 0} (g : A → ℕ) (o : A) (rs : List (Row A)) (t : List ℕ) → g (meaning o rs t) ≡ meaning (g o) (kindsBy g rs) t
+kind-means g o [] t = refl
+kind-means g o (r ∷ rs) t = test (same t (r .text)) (λ e. simp e) (λ e. simp (e, kind-means g o rs t))
+
+abbrev barKind : Symbology → ℕ
+barKind (Code128 m) = 0x05
+barKind Ean13 = 0x06
+barKind Ean8 = 0x07
+barKind UpcA = 0x08
+barKind (Interleaved c) = 0x09
+barKind (Code39 c) = 0x0a
+barKind UpcE = 0x10
+barKind Unlisted = 0
+
+abbrev matrixKind : Symbology2d → ℕ
+matrixKind two.Pdf417 = 0x0b
+matrixKind two.Aztec = 0x0c
+matrixKind two.Datamatrix = 0x0d
+matrixKind two.Qr = 0x0e
+matrixKind two.Maxicode = 0x0f
+matrixKind two.Unlisted = 0
+
+bar-kind-is : (f : List ℕ) → barKind (bars.symbologyOf f) ≡ meaning 0 barKinds f
+unfolding bars.symbologyOf
+bar-kind-is f = kind-means barKind Unlisted bars.symbologies f
+
+matrix-kind-is : (f : List ℕ) → matrixKind (symbologyOf f) ≡ meaning 0 matrixKinds f
+unfolding symbologyOf
+matrix-kind-is f = kind-means matrixKind two.Unlisted symbologies2d f
+
 -- ---- `B`, by its type
 bar-kind : (y : Symbology) (b : Barcode) → Shaped (barKind y) (b .position .x ∷ b .position .y ∷ []) (barcodeElement y b)
 unfolding code128 interleaved code39 ean13 ean8 upcA upcE
@@ -169,8 +205,9 @@ unfolding barcodeReading barcodeAt barcodeFields pointOf
 shaped-b s d r t =
     let x = number (field s 0) in let y = number (field s 1) in
     let l : isListed (bars.symbologyOf (trim (field s 3))) ≡ true = listed-is (trim (field s 3)) ∙ t in
-    shaped-cond (ltb (length (fields s)) 8) refusal.BarcodeFields (dataKind command.Barcode s) (sums x y r) _
-    (rw l (shaped-bars (barcodeFields s) x y r d))
+    subst (λ (k : ℕ). Shaped k (sums x y r) (barcodeReading s d r)) (bar-kind-is (trim (field s 3)))
+    (shaped-cond (ltb (length (fields s)) 8) refusal.BarcodeFields (barKind (bars.symbologyOf (trim (field s 3)))) (sums x y r) _
+    (rw l (shaped-bars (barcodeFields s) x y r d)))
 
 -- ---- `b`, by its type
 shaped-qr : (b : Bool) (zs : List ℤ) (x : Reading) → Shaped 0x0e zs x → Shaped 0x0e zs (cond b x (reading.Refused refusal.QrData))
@@ -190,8 +227,9 @@ shaped-2d : (s t : List ℕ) (d : DataSpan) (r : LabelPosition) → Shaped (data
 unfolding barcode2dReading
 shaped-2d s t d r =
     let x = number (field s 0) in let y = number (field s 1) in
-    shaped-cond (ltb (length (fields s)) 3) refusal.Barcode2dFields (dataKind command.Barcode2d s) (sums x y r) _
-    (matrix-kind (symbologyOf (trim (field s 2))) (fieldsFrom 3 s) t x y r d)
+    subst (λ (k : ℕ). Shaped k (sums x y r) (barcode2dReading s t d r)) (matrix-kind-is (trim (field s 2)))
+    (shaped-cond (ltb (length (fields s)) 3) refusal.Barcode2dFields (matrixKind (symbologyOf (trim (field s 2)))) (sums x y r) _
+    (matrix-kind (symbologyOf (trim (field s 2))) (fieldsFrom 3 s) t x y r d))
 
 shaped-data : (c : DataCommand) (s t : List ℕ) (d : DataSpan) (r : LabelPosition) → dataTyped c s ≡ true → Shaped (dataKind c s) (dataSizes c s r) (withData c s t d r)
 shaped-data command.Text s t d r l = shaped-a s d r

@@ -5,6 +5,7 @@ use mathlib.Core.List.{List, [], _∷_}
 use mathlib.Core.Logic.{_⊎_}
 use Prim.Native.Nat.{ℕ, _≤_, _<_}
 use lib.ListN.{length, drop}
+use Rattle.text.specs.Ascii.{ascii}
 use Rattle.text.specs.Blank.{trim}
 use Rattle.text.specs.Fields.{fields, field, quoted}
 use Rattle.text.specs.Utf8.{decode}
@@ -12,10 +13,7 @@ use Rattle.elements.specs.declared.LineColor.{LineColor}
 use Rattle.spelling.specs.declared.command.Command.the-variants.{Data, Line, Diagonal, Box}
 use Rattle.spelling.specs.declared.command.DataCommand.{DataCommand}
 use Rattle.spelling.specs.declared.command.DataCommand.the-variants.{Text, Barcode, Barcode2d}
-use Rattle.barcodes.specs.Barcode.{types}
-use Rattle.barcodes_2d.specs.Barcode2d.{types2d}
 use Rattle.commands.specs.Line.{paramsOf}
-use Rattle.text.specs.Ascii.{ascii}
 use Rattle.grammar.specs.Spelled.{Spells}
 
 -- the number of fields
@@ -31,6 +29,16 @@ OneOf (x ∷ xs) f = (f ≡ x) ⊎ OneOf xs f
 abbrev pub SpellsRead : DataCommand → List ℕ → Type 0
 SpellsRead c t = Spells (Data c) t × (0 < length (quoted t))
 
+-- "fourth field of `B` `0 1 1A 1B 1C 1E 2 2C 2D 3 3C E30 E80 UA0 UE0`"; the readers' table is apart from this list
+abbrev pub barTypes : List (List ℕ)
+barTypes =
+    ascii "0" ∷ ascii "1" ∷ ascii "1A" ∷ ascii "1B" ∷ ascii "1C" ∷ ascii "1E" ∷ ascii "2" ∷ ascii "2C" ∷ ascii "2D"
+    ∷ ascii "3" ∷ ascii "3C" ∷ ascii "E30" ∷ ascii "E80" ∷ ascii "UA0" ∷ ascii "UE0" ∷ []
+
+-- "third of `b` `A D M P Q`"
+abbrev pub matrixTypes : List (List ℕ)
+matrixTypes = ascii "A" ∷ ascii "D" ∷ ascii "M" ∷ ascii "P" ∷ ascii "Q" ∷ []
+
 -- the faults of a line t whose blanks are off: "Within a line: count, type, data size"
 pub data LineFault (t : List ℕ) : ℕ → Type 0 where
   -- "1 `A`, 2 `B`, 3 `b`, 4 `LO`/`LW`, 5 `LS`, 6 `X` with too few fields"
@@ -43,8 +51,8 @@ pub data LineFault (t : List ℕ) : ℕ → Type 0 where
   -- "7 type of `B`; 8 type of `b`; 9 QR data over 9,999 bytes"; "its type, blanks off, in this list: fourth field of
   -- `B` .., third of `b` .."
   type-b : SpellsRead Barcode t → 8 ≤ count (paramsOf t)
-      → (OneOf types (trim (field (paramsOf t) 3)) → ⊥) → LineFault t 7
+      → (OneOf barTypes (trim (field (paramsOf t) 3)) → ⊥) → LineFault t 7
   type-2d : SpellsRead Barcode2d t → 3 ≤ count (paramsOf t)
-      → (OneOf types2d (trim (field (paramsOf t) 2)) → ⊥) → LineFault t 8
+      → (OneOf matrixTypes (trim (field (paramsOf t) 2)) → ⊥) → LineFault t 8
   long-qr : SpellsRead Barcode2d t → 3 ≤ count (paramsOf t) → trim (field (paramsOf t) 2) ≡ ascii "Q"
       → 9999 < length (decode (quoted t)) → LineFault t 9

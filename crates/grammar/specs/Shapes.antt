@@ -4,8 +4,10 @@ use mathlib.Core.Path.{_≡_}
 use mathlib.Core.List.{List, [], _∷_}
 use Prim.Native.Nat.{ℕ}
 use lib.ListN.{take}
+use Rattle.text.specs.Ascii.{ascii}
 use Rattle.text.specs.Blank.{trim}
 use Rattle.text.specs.Fields.{field}
+use Rattle.text.specs.Table.{Row, row, meaning}
 use Rattle.elements.specs.declared.LabelElement.{LabelElement}
 use Rattle.elements.specs.declared.LabelElement.the-variants as element
 use Rattle.elements.specs.declared.LabelPosition.{LabelPosition}
@@ -15,13 +17,6 @@ use Rattle.spelling.specs.declared.command.Command.the-variants.{Other}
 use Rattle.spelling.specs.declared.command.DataCommand.{DataCommand}
 use Rattle.spelling.specs.declared.command.DataCommand.the-variants.{Text, Barcode, Barcode2d}
 use Rattle.spelling.specs.Command.{commandOf}
-use Rattle.barcodes.specs.declared.barcode.Symbology.{Symbology}
-use Rattle.barcodes.specs.declared.barcode.Symbology.the-variants.{Code128, Interleaved, Code39, Ean13, Ean8, UpcA}
-use Rattle.barcodes.specs.declared.barcode.Symbology.the-variants.{UpcE, Unlisted}
-use Rattle.barcodes.specs.Barcode as bars
-use Rattle.barcodes_2d.specs.declared.barcode_2d.Symbology2d.{Symbology2d}
-use Rattle.barcodes_2d.specs.declared.barcode_2d.Symbology2d.the-variants as two
-use Rattle.barcodes_2d.specs.Barcode2d.{symbologyOf}
 use Rattle.commands.specs.Line.{paramsOf}
 use Rattle.grammar.specs.Units.{EplUnit, block, line, last}
 use Rattle.grammar.specs.Ranges.{sizesOf}
@@ -65,31 +60,25 @@ placeOf (element.BarcodeQr e) = e .position
 placeOf (element.Maxicode e) = e .position
 placeOf (element.BarcodeUcpe e) = e .position
 
--- "05 Code 128", "06 EAN-13, 07 EAN-8, 08 UPC-A, 10 UPC-E", "09 2 of 5, 0a Code 39", by the type of `B`
-abbrev pub barKind : Symbology → ℕ
-barKind (Code128 m) = 0x05
-barKind Ean13 = 0x06
-barKind Ean8 = 0x07
-barKind UpcA = 0x08
-barKind (Interleaved c) = 0x09
-barKind (Code39 c) = 0x0a
-barKind UpcE = 0x10
-barKind Unlisted = 0
+-- the kinds by the type of `B`, apart from the readers' table: "`0` is Code 128 .., `1E` .., `1`, `1A`, `1B`, `1C` ..;
+-- `2` is 2 of 5 .., `2C` and `2D` ..; `3` is Code 39 .., `3C` ..; `E30` EAN-13, `E80` EAN-8, `UA0` UPC-A, `UE0` UPC-E"
+abbrev pub barKinds : List (Row ℕ)
+barKinds =
+    row (ascii "0") 0x05 ∷ row (ascii "1") 0x05 ∷ row (ascii "1A") 0x05 ∷ row (ascii "1B") 0x05 ∷ row (ascii "1C") 0x05
+    ∷ row (ascii "1E") 0x05 ∷ row (ascii "2") 0x09 ∷ row (ascii "2C") 0x09 ∷ row (ascii "2D") 0x09
+    ∷ row (ascii "3") 0x0a ∷ row (ascii "3C") 0x0a ∷ row (ascii "E30") 0x06 ∷ row (ascii "E80") 0x07
+    ∷ row (ascii "UA0") 0x08 ∷ row (ascii "UE0") 0x10 ∷ []
 
--- "0b PDF417", "0c Aztec", "0d Data Matrix", "0e QR", "0f MaxiCode", by the type of `b`
-abbrev pub matrixKind : Symbology2d → ℕ
-matrixKind two.Pdf417 = 0x0b
-matrixKind two.Aztec = 0x0c
-matrixKind two.Datamatrix = 0x0d
-matrixKind two.Qr = 0x0e
-matrixKind two.Maxicode = 0x0f
-matrixKind two.Unlisted = 0
+-- by the type of `b`: "`A` Aztec, `D` Data Matrix, `M` MaxiCode, `P` PDF417, `Q` QR"
+abbrev pub matrixKinds : List (Row ℕ)
+matrixKinds =
+    row (ascii "A") 0x0c ∷ row (ascii "D") 0x0d ∷ row (ascii "M") 0x0f ∷ row (ascii "P") 0x0b ∷ row (ascii "Q") 0x0e ∷ []
 
 -- the type is the "fourth field of `B`", the "third of `b`", "blanks off"
 abbrev pub dataKind : DataCommand → List ℕ → ℕ
 dataKind Text s = 0x01
-dataKind Barcode s = barKind (bars.symbologyOf (trim (field s 3)))
-dataKind Barcode2d s = matrixKind (symbologyOf (trim (field s 2)))
+dataKind Barcode s = meaning 0 barKinds (trim (field s 3))
+dataKind Barcode2d s = meaning 0 matrixKinds (trim (field s 2))
 
 -- the kind of what a line t yields that spells c, 0 where it yields nothing
 abbrev pub kindAs : Command → List ℕ → ℕ
