@@ -5,7 +5,7 @@ use mathlib.Core.List.{[], _∷_}
 use lib.IntN.{pos}
 use Rattle.elements.specs.declared.LabelElement.the-variants.{GraphicBox}
 use Rattle.elements.specs.declared.LineColor.the-variants.{Black}
-use Rattle.element_frames.specs.Frame.{be32, head, drawn, frameOf, countFrame}
+use Rattle.element_frames.specs.Frame.{be32, head, extentBytes, fieldBytes, frameOf, countFrame}
 use Rattle.element_frames.specs.Hex.{lineOf}
 
 pub count-line : lineOf (countFrame 1) ≡ 48 ∷ 48 ∷ 48 ∷ 48 ∷ 48 ∷ 48 ∷ 48 ∷ 48 ∷ 48 ∷ 49 ∷ 10 ∷ []
@@ -13,5 +13,5 @@ unfolding be32
 count-line = refl
 
 pub box-line : lineOf (frameOf [] (GraphicBox (record { position = record { x = pos 15; y = pos 26 }; width = pos 30; height = pos 4; «border_thickness» = pos 4; «line_color» = Black }))) ≡ 48 ∷ 50 ∷ 48 ∷ 48 ∷ 48 ∷ 48 ∷ 48 ∷ 48 ∷ 48 ∷ 102 ∷ 48 ∷ 48 ∷ 48 ∷ 48 ∷ 48 ∷ 48 ∷ 49 ∷ 97 ∷ 48 ∷ 48 ∷ 48 ∷ 48 ∷ 48 ∷ 48 ∷ 49 ∷ 101 ∷ 48 ∷ 48 ∷ 48 ∷ 48 ∷ 48 ∷ 48 ∷ 48 ∷ 52 ∷ 48 ∷ 48 ∷ 48 ∷ 48 ∷ 48 ∷ 48 ∷ 48 ∷ 52 ∷ 48 ∷ 48 ∷ 10 ∷ []
-unfolding be32 head drawn frameOf
+unfolding be32 head extentBytes fieldBytes frameOf
 box-line = refl

@@ -4,119 +4,156 @@ use mathlib.Core.Path.{_≡_, refl, sym, ap, _∙_}
 use mathlib.Core.List.{List, [], _∷_, _++_}
 use Prim.Native.Nat.{ℕ, _+_, _*_, _≤_}
 use native.Mathlib.Omega.{arith}
-use lib.ListN.{length}
+use lib.ListN.{length, length-append}
 use Rattle.text.specs.Utf8.{decode}
-use Rattle.elements.specs.Spans.{spans, shifted, In}
+use Rattle.text.proofs.Utf8Laws.{length-decode-le}
 use Rattle.elements.specs.declared.DataSpan.{DataSpan}
 use Rattle.elements.specs.declared.LabelElement.{LabelElement}
-use Rattle.elements.specs.declared.LabelElement.the-variants.{Text, GraphicBox, DiagonalLine, GraphicField, Barcode128, BarcodeEan13, BarcodeEan8, BarcodeUca, Barcode2of5, Barcode39, BarcodePdf417, BarcodeAztec, BarcodeDatamatrix, BarcodeQr, Maxicode, BarcodeUcpe}
-use Rattle.element_frames.specs.Frame.{be32, part, head, drawn, bars, plain, ratioed, rowed, frameOf, dataLen}
+use Rattle.elements.specs.declared.LabelPosition.{LabelPosition}
+use Rattle.elements.specs.declared.plain.Data.{Data}
+use Rattle.elements.specs.declared.plain.Data.the-variants.{Nothing, Payload, Decoded}
+use Rattle.elements.specs.declared.plain.Fields.{Fields}
+use Rattle.elements.specs.declared.plain.Fields.the-variants.{Text, Box, Diagonal, Graphic, Code128, Bars, Ratio, Pdf417, Aztec, Datamatrix, Qr, Maxicode}
+use Rattle.elements.specs.declared.plain.Plain.{Plain}
+use Rattle.elements.specs.Plain.{plainOf}
+use Rattle.elements.specs.Spans.{later, shifted, spansIn, spans, AllIn, In}
+use Rattle.elements.proofs.PlainLaws.{onData, plain-on-span}
+use Rattle.element_frames.specs.Frame.{be32, sized, part, head, extentBytes, barBytes, rowBytes, fieldBytes, dataBytes, plainFrame, frameOf, lens, dataLen}
 use Rattle.element_frames.specs.Put.{PutHex}
 use Rattle.element_frames.proofs.PutLaws.{whole, retold}
-use Rattle.element_frames.proofs.PartLaws.{part-le, decode-part-le, part-local}
+use Rattle.element_frames.proofs.PartLaws.{part-le, part-in, decode-part-le, part-local}
 
--- the length of a frame: what its kind always has, and the data
-abbrev pub frameSize : List ℕ → LabelElement → ℕ
-frameSize s (Text e) = 31 + length (decode (part s (e .text)))
-frameSize s (GraphicBox e) = 22
-frameSize s (DiagonalLine e) = 22
-frameSize s (GraphicField e) = 21 + length (part s (e .«data»))
-frameSize s (Barcode128 e) = 24 + length (decode (part s (e .«data»)))
-frameSize s (BarcodeEan13 e) = 23 + length (decode (part s (e .«data»)))
-frameSize s (BarcodeEan8 e) = 23 + length (decode (part s (e .«data»)))
-frameSize s (BarcodeUca e) = 23 + length (decode (part s (e .«data»)))
-frameSize s (Barcode2of5 e) = 32 + length (decode (part s (e .«data»)))
-frameSize s (Barcode39 e) = 32 + length (decode (part s (e .«data»)))
-frameSize s (BarcodePdf417 e) = 35 + length (decode (part s (e .«data»)))
-frameSize s (BarcodeAztec e) = 21 + length (decode (part s (e .«data»)))
-frameSize s (BarcodeDatamatrix e) = 25 + length (decode (part s (e .«data»)))
-frameSize s (BarcodeQr e) = 18 + length (decode (part s (e .«data»)))
-frameSize s (Maxicode e) = 17 + length (decode (part s (e .«data»)))
-frameSize s (BarcodeUcpe e) = 23 + length (decode (part s (e .«data»)))
+-- ---- fields
+-- how many bytes they are
+abbrev pub fieldSize : Fields → ℕ
+fieldSize (Text r f) = 18
+fieldSize (Box x c) = 13
+fieldSize (Diagonal x d) = 13
+fieldSize (Graphic n) = 4
+fieldSize (Code128 b m) = 11
+fieldSize (Bars b) = 10
+fieldSize (Ratio b c r) = 19
+fieldSize (Pdf417 b) = 22
+fieldSize (Aztec b) = 8
+fieldSize (Datamatrix b) = 12
+fieldSize (Qr b l) = 5
+fieldSize (Maxicode c) = 4
 
-pub length-frame : (s : List ℕ) (e : LabelElement) → length (frameOf s e) ≡ frameSize s e
-unfolding be32 head drawn bars plain ratioed rowed frameOf
-length-frame s (Text e) = omega arith
-length-frame s (GraphicBox e) = omega arith
-length-frame s (DiagonalLine e) = omega arith
-length-frame s (GraphicField e) = omega arith
-length-frame s (Barcode128 e) = omega arith
-length-frame s (BarcodeEan13 e) = omega arith
-length-frame s (BarcodeEan8 e) = omega arith
-length-frame s (BarcodeUca e) = omega arith
-length-frame s (Barcode2of5 e) = omega arith
-length-frame s (Barcode39 e) = omega arith
-length-frame s (BarcodePdf417 e) = omega arith
-length-frame s (BarcodeAztec e) = omega arith
-length-frame s (BarcodeDatamatrix e) = omega arith
-length-frame s (BarcodeQr e) = omega arith
-length-frame s (Maxicode e) = omega arith
-length-frame s (BarcodeUcpe e) = omega arith
+length-fields : (f : Fields) → (length (fieldBytes f) ≡ fieldSize f) × (fieldSize f ≤ 22)
+unfolding be32 extentBytes barBytes rowBytes fieldBytes
+length-fields (Text r f) = (refl, omega arith)
+length-fields (Box x c) = (refl, omega arith)
+length-fields (Diagonal x d) = (refl, omega arith)
+length-fields (Graphic n) = (refl, omega arith)
+length-fields (Code128 b m) = (refl, omega arith)
+length-fields (Bars b) = (refl, omega arith)
+length-fields (Ratio b c r) = (refl, omega arith)
+length-fields (Pdf417 b) = (refl, omega arith)
+length-fields (Aztec b) = (refl, omega arith)
+length-fields (Datamatrix b) = (refl, omega arith)
+length-fields (Qr b l) = (refl, omega arith)
+length-fields (Maxicode c) = (refl, omega arith)
 
--- an element that a match has told
-module _ (s : List ℕ) {e f : LabelElement} (h : e ≡ f) where
-  pub size-is : length (frameOf s e) ≡ frameSize s f
-  size-is = ap (λ (g : LabelElement). length (frameOf s g)) h ∙ length-frame s f
+-- fields that a match has told
+module _ {f g : Fields} (h : f ≡ g) where
+  pub fields-size : length (fieldBytes f) ≡ fieldSize g
+  fields-size = ap (λ (x : Fields). length (fieldBytes x)) h ∙ length-fields g .0
 
-  pub told : {n l : List ℕ} {at k r : ℕ} → PutHex n l at (frameOf s f) k r → PutHex n l at (frameOf s e) (length (frameOf s e)) r
-  told p = whole (retold (ap (frameOf s) (sym h)) p)
+  pub fields-told : {n l : List ℕ} {at k r : ℕ} → PutHex n l at (fieldBytes g) k r
+      → PutHex n l at (fieldBytes f) (length (fieldBytes f)) r
+  fields-told p = whole (retold (ap fieldBytes (sym h)) p)
 
-pub frame-le : (s : List ℕ) (e : LabelElement) → length (frameOf s e) ≤ 35 + 3 * dataLen e
-frame-le s (Text e) = omega (arith, length-frame s (Text e), decode-part-le s (e .text))
-frame-le s (GraphicBox e) = omega (arith, length-frame s (GraphicBox e))
-frame-le s (DiagonalLine e) = omega (arith, length-frame s (DiagonalLine e))
-frame-le s (GraphicField e) = omega (arith, length-frame s (GraphicField e), part-le s (e .«data»))
-frame-le s (Barcode128 e) = omega (arith, length-frame s (Barcode128 e), decode-part-le s (e .«data»))
-frame-le s (BarcodeEan13 e) = omega (arith, length-frame s (BarcodeEan13 e), decode-part-le s (e .«data»))
-frame-le s (BarcodeEan8 e) = omega (arith, length-frame s (BarcodeEan8 e), decode-part-le s (e .«data»))
-frame-le s (BarcodeUca e) = omega (arith, length-frame s (BarcodeUca e), decode-part-le s (e .«data»))
-frame-le s (Barcode2of5 e) = omega (arith, length-frame s (Barcode2of5 e), decode-part-le s (e .«data»))
-frame-le s (Barcode39 e) = omega (arith, length-frame s (Barcode39 e), decode-part-le s (e .«data»))
-frame-le s (BarcodePdf417 e) = omega (arith, length-frame s (BarcodePdf417 e), decode-part-le s (e .«data»))
-frame-le s (BarcodeAztec e) = omega (arith, length-frame s (BarcodeAztec e), decode-part-le s (e .«data»))
-frame-le s (BarcodeDatamatrix e) = omega (arith, length-frame s (BarcodeDatamatrix e), decode-part-le s (e .«data»))
-frame-le s (BarcodeQr e) = omega (arith, length-frame s (BarcodeQr e), decode-part-le s (e .«data»))
-frame-le s (Maxicode e) = omega (arith, length-frame s (Maxicode e), decode-part-le s (e .«data»))
-frame-le s (BarcodeUcpe e) = omega (arith, length-frame s (BarcodeUcpe e), decode-part-le s (e .«data»))
+-- ---- data
+abbrev pub dataSize : List ℕ → Data → ℕ
+dataSize s Nothing = 0
+dataSize s (Payload d) = 8 + length (part s d)
+dataSize s (Decoded d) = 4 + length (decode (part s d))
 
-cons-nil : {d : DataSpan} {ds : List DataSpan} → d ∷ ds ≡ [] → ⊥
-cons-nil h = let z : _≡_ {A = ℕ} 0 1 = cc in omega arith
+length-data : (s : List ℕ) (d : Data) → length (dataBytes s d) ≡ dataSize s d
+unfolding be32
+length-data s Nothing = refl
+length-data s (Payload d) = omega arith
+length-data s (Decoded d) = omega arith
+
+-- data that a match has told
+module _ (s : List ℕ) {d x : Data} (h : d ≡ x) where
+  pub data-size-is : length (dataBytes s d) ≡ dataSize s x
+  data-size-is = ap (λ (y : Data). length (dataBytes s y)) h ∙ length-data s x
+
+  pub data-told : {n l : List ℕ} {at k r : ℕ} → PutHex n l at (dataBytes s x) k r
+      → PutHex n l at (dataBytes s d) (length (dataBytes s d)) r
+  data-told p = whole (retold (ap (dataBytes s) (sym h)) p)
+
+data-le : (s : List ℕ) (d : Data) → length (dataBytes s d) ≤ 8 + 3 * lens (spansIn d)
+data-le s Nothing = omega arith
+data-le s (Payload d) = omega (arith, length-data s (Payload d), part-le s d)
+data-le s (Decoded d) = omega (arith, length-data s (Decoded d), decode-part-le s d)
+
+data-in : (s : List ℕ) (d : Data) → length (dataBytes s d) ≤ 8 + 3 * length s
+data-in s Nothing = omega arith
+data-in s (Payload d) = omega (arith, length-data s (Payload d), part-in s d)
+data-in s (Decoded d) = omega (arith, length-data s (Decoded d), length-decode-le (part s d), part-in s d)
+
+-- bytes before and after x change nothing of data that lies in x
+data-local : (pre x post : List ℕ) (d : Data) → AllIn (length x) (spansIn d)
+    → dataBytes (pre ++ (x ++ post)) (onData (later (length pre)) d) ≡ dataBytes x d
+data-local pre x post Nothing h = refl
+data-local pre x post (Payload d) h = rw (part-local pre x post d (h .0))
+data-local pre x post (Decoded d) h = rw (part-local pre x post d (h .0))
+
+-- ---- frames
+length-head : (kind : ℕ) (p : LabelPosition) → length (head kind p) ≡ 9
+unfolding be32 head
+length-head kind p = refl
+
+-- kind and position, the fields, the data
+length-frame : (s : List ℕ) (e : LabelElement)
+    → length (frameOf s e) ≡ 9 + length (fieldBytes (plainOf e .fields)) + length (dataBytes s (plainOf e .«data»))
+unfolding frameOf
+length-frame s e =
+    let p = plainOf e in
+    let h = head (p .kind) (p .position) in
+    let f = fieldBytes (p .fields) in
+    let t = dataBytes s (p .«data») in
+    let all : length (frameOf s e) ≡ length (h ++ f) + length t = length-append (h ++ f) t in
+    omega (arith, length-head (p .kind) (p .position), length-append h f)
+
+-- an element that is taken apart
+module _ (s : List ℕ) (e : LabelElement) {p : Plain} (h : p ≡ plainOf e) where
+  pub frame-size : length (frameOf s e) ≡ 9 + length (fieldBytes (p .fields)) + length (dataBytes s (p .«data»))
+  frame-size = rw h (length-frame s e)
+
+  pub frame-told : {n l : List ℕ} {at k r : ℕ} → PutHex n l at (plainFrame s p) k r
+      → PutHex n l at (frameOf s e) (length (frameOf s e)) r
+  unfolding frameOf
+  frame-told q = whole (retold (ap (plainFrame s) h) q)
+
+pub frame-le : (s : List ℕ) (e : LabelElement) → length (frameOf s e) ≤ 39 + 3 * dataLen e
+frame-le s e =
+    let f = length-fields (plainOf e .fields) in
+    omega (arith, length-frame s e, f .0, f .1, data-le s (plainOf e .«data»))
+
+pub frame-in : (s : List ℕ) (e : LabelElement) → length (frameOf s e) ≤ 39 + 3 * length s
+frame-in s e =
+    let f = length-fields (plainOf e .fields) in
+    omega (arith, length-frame s e, f .0, f .1, data-in s (plainOf e .«data»))
 
 -- a frame with no data
-pub frame-plain : (s : List ℕ) (e : LabelElement) → spans e ≡ [] → length (frameOf s e) ≡ 22
-frame-plain s (Text e) h = absurd (cons-nil h)
-frame-plain s (GraphicBox e) h = length-frame s (GraphicBox e)
-frame-plain s (DiagonalLine e) h = length-frame s (DiagonalLine e)
-frame-plain s (GraphicField e) h = absurd (cons-nil h)
-frame-plain s (Barcode128 e) h = absurd (cons-nil h)
-frame-plain s (BarcodeEan13 e) h = absurd (cons-nil h)
-frame-plain s (BarcodeEan8 e) h = absurd (cons-nil h)
-frame-plain s (BarcodeUca e) h = absurd (cons-nil h)
-frame-plain s (Barcode2of5 e) h = absurd (cons-nil h)
-frame-plain s (Barcode39 e) h = absurd (cons-nil h)
-frame-plain s (BarcodePdf417 e) h = absurd (cons-nil h)
-frame-plain s (BarcodeAztec e) h = absurd (cons-nil h)
-frame-plain s (BarcodeDatamatrix e) h = absurd (cons-nil h)
-frame-plain s (BarcodeQr e) h = absurd (cons-nil h)
-frame-plain s (Maxicode e) h = absurd (cons-nil h)
-frame-plain s (BarcodeUcpe e) h = absurd (cons-nil h)
+pub frame-plain : (s : List ℕ) (e : LabelElement) → spans e ≡ [] → length (frameOf s e) ≤ 31
+frame-plain s e h =
+    let f = length-fields (plainOf e .fields) in
+    omega (arith, length-frame s e, f .0, f .1, none (plainOf e .«data») h)
+  where
+    none : (d : Data) → spansIn d ≡ [] → length (dataBytes s d) ≡ 0
+    none Nothing h = refl
+    none (Payload d) h = absurd (let z : _≡_ {A = ℕ} 0 1 = cc in omega arith)
+    none (Decoded d) h = absurd (let z : _≡_ {A = ℕ} 0 1 = cc in omega arith)
 
 -- a frame depends on the bytes where the element's data lies and on no others
-pub frame-local : (pre x post : List ℕ) (e : LabelElement) → In (length x) e → frameOf (pre ++ (x ++ post)) (shifted (length pre) e) ≡ frameOf x e
+pub frame-local : (pre x post : List ℕ) (e : LabelElement) → In (length x) e
+    → frameOf (pre ++ (x ++ post)) (shifted (length pre) e) ≡ frameOf x e
 unfolding frameOf
-frame-local pre x post (Text e) h = rw (part-local pre x post (e .text) (h .0))
-frame-local pre x post (GraphicBox e) h = refl
-frame-local pre x post (DiagonalLine e) h = refl
-frame-local pre x post (GraphicField e) h = rw (part-local pre x post (e .«data») (h .0))
-frame-local pre x post (Barcode128 e) h = rw (part-local pre x post (e .«data») (h .0))
-frame-local pre x post (BarcodeEan13 e) h = rw (part-local pre x post (e .«data») (h .0))
-frame-local pre x post (BarcodeEan8 e) h = rw (part-local pre x post (e .«data») (h .0))
-frame-local pre x post (BarcodeUca e) h = rw (part-local pre x post (e .«data») (h .0))
-frame-local pre x post (Barcode2of5 e) h = rw (part-local pre x post (e .«data») (h .0))
-frame-local pre x post (Barcode39 e) h = rw (part-local pre x post (e .«data») (h .0))
-frame-local pre x post (BarcodePdf417 e) h = rw (part-local pre x post (e .«data») (h .0))
-frame-local pre x post (BarcodeAztec e) h = rw (part-local pre x post (e .«data») (h .0))
-frame-local pre x post (BarcodeDatamatrix e) h = rw (part-local pre x post (e .«data») (h .0))
-frame-local pre x post (BarcodeQr e) h = rw (part-local pre x post (e .«data») (h .0))
-frame-local pre x post (Maxicode e) h = rw (part-local pre x post (e .«data») (h .0))
-frame-local pre x post (BarcodeUcpe e) h = rw (part-local pre x post (e .«data») (h .0))
+frame-local pre x post e h =
+    let p = plainOf e in
+    ap (plainFrame (pre ++ (x ++ post))) (plain-on-span (later (length pre)) e)
+    ∙ ap (λ (t : List ℕ). head (p .kind) (p .position) ++ fieldBytes (p .fields) ++ t) (data-local pre x post (p .«data») h)

@@ -29,6 +29,10 @@ part-is s d a e = ap (take (d .len)) (rest s a ∙ ap (λ (n : ℕ). drop n s) e
 pub part-le : (s : List ℕ) (d : DataSpan) → length (part s d) ≤ d .len
 part-le s d = omega (arith, length-take (d .len) (drop (d .start) s))
 
+-- of an input of so many bytes
+pub part-in : (s : List ℕ) (d : DataSpan) → length (part s d) ≤ length s
+part-in s d = omega (arith, length-take (d .len) (drop (d .start) s), length-drop (d .start) s)
+
 pub decode-part-le : (s : List ℕ) (d : DataSpan) → length (decode (part s d)) ≤ 3 * d .len
 decode-part-le s d = omega (arith, length-decode-le (part s d), part-le s d)
 

@@ -10,17 +10,25 @@ use Rattle.numbers.specs.Int.{twos}
 use Rattle.text.specs.Utf8.{decode}
 use Rattle.elements.specs.declared.BarcodeMode.{BarcodeMode}
 use Rattle.elements.specs.declared.BarcodeMode.the-variants.{Ucc, Automatic, Ean}
-use Rattle.elements.specs.declared.BarcodePdf417 as pdf417
+use Rattle.elements.specs.declared.BarcodePdf417.{BarcodePdf417}
 use Rattle.elements.specs.declared.QrErrorCorrectionLevel.{QrErrorCorrectionLevel}
 use Rattle.elements.specs.declared.QrErrorCorrectionLevel.the-variants.{H, Q, M, L}
 use Rattle.elements.specs.declared.DataSpan.{DataSpan}
 use Rattle.elements.specs.declared.FieldOrientation.{FieldOrientation}
 use Rattle.elements.specs.declared.FieldOrientation.the-variants.{Normal, Rotated90, Rotated180, Rotated270}
 use Rattle.elements.specs.declared.LabelElement.{LabelElement}
-use Rattle.elements.specs.declared.LabelElement.the-variants.{Text, GraphicBox, DiagonalLine, GraphicField, Barcode128, BarcodeEan13, BarcodeEan8, BarcodeUca, Barcode2of5, Barcode39, BarcodePdf417, BarcodeAztec, BarcodeDatamatrix, BarcodeQr, Maxicode, BarcodeUcpe}
 use Rattle.elements.specs.declared.LabelPosition.{LabelPosition}
 use Rattle.elements.specs.declared.LineColor.{LineColor}
 use Rattle.elements.specs.declared.LineColor.the-variants.{Black, White}
+use Rattle.elements.specs.declared.plain.Bars as bars
+use Rattle.elements.specs.declared.plain.Data.{Data}
+use Rattle.elements.specs.declared.plain.Data.the-variants.{Nothing, Payload, Decoded}
+use Rattle.elements.specs.declared.plain.Extent.{Extent}
+use Rattle.elements.specs.declared.plain.Fields.{Fields}
+use Rattle.elements.specs.declared.plain.Fields.the-variants.{Text, Box, Diagonal, Graphic, Code128, Bars, Ratio}
+use Rattle.elements.specs.declared.plain.Fields.the-variants.{Pdf417, Aztec, Datamatrix, Qr, Maxicode}
+use Rattle.elements.specs.declared.plain.Plain.{Plain}
+use Rattle.elements.specs.Plain.{plainOf}
 
 -- "4 bytes, most significant first": the last 32 bits of v
 unfoldable pub be32 : ℕ → List ℕ
@@ -84,53 +92,54 @@ decoded s d = sized (decode (part s d))
 unfoldable pub head : ℕ → LabelPosition → List ℕ
 head kind p = kind ∷ number (p .x) ++ number (p .y)
 
--- "02 box: width, height, thickness, colour flag"; "03 diagonal: width, height, thickness, direction flag"
-unfoldable pub drawn : ℕ → LabelPosition → ℤ → ℤ → ℤ → ℕ → List ℕ
-drawn kind p width height thickness mark = head kind p ++ number width ++ number height ++ number thickness ++ (mark ∷ [])
+-- "width, height, thickness"
+unfoldable pub extentBytes : Extent → List ℕ
+extentBytes x = number (x .width) ++ number (x .height) ++ number (x .thickness)
 
--- "rotation, narrow, height, line", with which the fields of Code 128, of EAN and UPC, of 2 of 5 and of Code 39 begin
-unfoldable pub bars : FieldOrientation → ℤ → ℤ → Bool → List ℕ
-bars o narrow height line = rotation o ∷ number narrow ++ number height ++ (flag line ∷ [])
-
--- "06 EAN-13, 07 EAN-8, 08 UPC-A, 10 UPC-E: rotation, narrow, height, line, data"
-unfoldable pub plain : ℕ → LabelPosition → List ℕ → List ℕ → List ℕ
-plain kind p bar text = head kind p ++ bar ++ text
-
--- "09 2 of 5, 0a Code 39: rotation, narrow, height, line, check flag, ratio f64, data"
-unfoldable pub ratioed : ℕ → LabelPosition → List ℕ → Bool → Float → List ℕ → List ℕ
-ratioed kind p bar check ratio text = head kind p ++ bar ++ (flag check ∷ []) ++ float ratio ++ text
+-- "rotation, narrow, height, line"
+unfoldable pub barBytes : bars.Bars → List ℕ
+barBytes b = rotation (b .orientation) ∷ number (b .narrow) ++ number (b .height) ++ (flag (b .line) ∷ [])
 
 -- "row height, security, columns, rows"
-unfoldable pub rowed : pdf417.BarcodePdf417 → List ℕ
-rowed b = number (b .«row_height») ++ number (b .security) ++ number (b .columns) ++ number (b .rows)
+unfoldable pub rowBytes : BarcodePdf417 → List ℕ
+rowBytes b = number (b .«row_height») ++ number (b .security) ++ number (b .columns) ++ number (b .rows)
+
+-- what follows, before the data
+unfoldable pub fieldBytes : Fields → List ℕ
+-- "01 text: rotation flag (0 to 3), reverse flag, height and width f64, data"
+fieldBytes (Text reverse f) = rotation (f .rotation) ∷ flag reverse ∷ float (f .height) ++ float (f .width)
+-- "02 box: width, height, thickness, colour flag (0 black, 1 white); 03 diagonal: width, height, thickness, direction flag"
+fieldBytes (Box x c) = extentBytes x ++ (colour c ∷ [])
+fieldBytes (Diagonal x down) = extentBytes x ++ (flag down ∷ [])
+-- "04 graphic: row bytes, total, data (the payload, not decoded)"
+fieldBytes (Graphic n) = number n
+-- "05 Code 128: rotation, narrow, height, line flag, mode flag (1 Ucc, 2 Automatic, 3 Ean), data"
+fieldBytes (Code128 b m) = barBytes b ++ (mode m ∷ [])
+-- "06 EAN-13, 07 EAN-8, 08 UPC-A, 10 UPC-E: rotation, narrow, height, line, data"
+fieldBytes (Bars b) = barBytes b
+-- "09 2 of 5, 0a Code 39: rotation, narrow, height, line, check flag, ratio f64, data"
+fieldBytes (Ratio b check ratio) = barBytes b ++ (flag check ∷ float ratio)
+-- "0b PDF417: rotation, row height, security, columns, rows, truncate flag, module width, data"
+fieldBytes (Pdf417 b) = rotation (b .orientation) ∷ rowBytes b ++ (flag (b .truncate) ∷ number (b .«module_width»))
+-- "0c Aztec: magnification, size, data; 0d Data Matrix: module, columns, rows, data"
+fieldBytes (Aztec b) = number (b .magnification) ++ number (b .size)
+fieldBytes (Datamatrix b) = number (b .height) ++ number (b .columns) ++ number (b .rows)
+-- "0e QR: magnification, level letter (1 byte), data; 0f MaxiCode: mode, data"
+fieldBytes (Qr b l) = number (b .magnification) ++ (level l ∷ [])
+fieldBytes (Maxicode c) = number (c .mode)
+
+-- the data, with the total before a payload, which is not decoded
+abbrev pub dataBytes : List ℕ → Data → List ℕ
+dataBytes s Nothing = []
+dataBytes s (Payload d) = be32 (length (part s d)) ++ sized (part s d)
+dataBytes s (Decoded d) = decoded s d
+
+abbrev pub plainFrame : List ℕ → Plain → List ℕ
+plainFrame s p = head (p .kind) (p .position) ++ fieldBytes (p .fields) ++ dataBytes s (p .«data»)
 
 -- the frame of an element of the input s
 unfoldable pub frameOf : List ℕ → LabelElement → List ℕ
--- "01 text: rotation flag (0 to 3), reverse flag, height and width f64, data"
-frameOf s (Text e) = head 1 (e .position) ++ (rotation (e .font .rotation) ∷ []) ++ (flag (e .«reverse_print») ∷ []) ++ float (e .font .height) ++ float (e .font .width) ++ decoded s (e .text)
-frameOf s (GraphicBox e) = drawn 2 (e .position) (e .width) (e .height) (e .«border_thickness») (colour (e .«line_color»))
-frameOf s (DiagonalLine e) = drawn 3 (e .position) (e .width) (e .height) (e .«border_thickness») (flag (e .«top_to_bottom»))
--- "04 graphic: row bytes, total, data (the payload, not decoded)"
-frameOf s (GraphicField e) = head 4 (e .position) ++ number (e .«row_bytes») ++ be32 (length (part s (e .«data»))) ++ sized (part s (e .«data»))
--- "05 Code 128: rotation, narrow, height, line flag, mode flag (1 Ucc, 2 Automatic, 3 Ean), data"
-frameOf s (Barcode128 e) = head 5 (e .position) ++ bars (e .barcode .orientation) (e .width) (e .barcode .height) (e .barcode .line) ++ (mode (e .barcode .mode) ∷ []) ++ decoded s (e .«data»)
-frameOf s (BarcodeEan13 e) = plain 6 (e .position) (bars (e .barcode .orientation) (e .width) (e .barcode .height) (e .barcode .line)) (decoded s (e .«data»))
-frameOf s (BarcodeEan8 e) = plain 7 (e .position) (bars (e .barcode .orientation) (e .width) (e .barcode .height) (e .barcode .line)) (decoded s (e .«data»))
-frameOf s (BarcodeUca e) = plain 8 (e .position) (bars (e .barcode .orientation) (e .width) (e .barcode .height) (e .barcode .line)) (decoded s (e .«data»))
-frameOf s (Barcode2of5 e) = ratioed 9 (e .position) (bars (e .barcode .orientation) (e .width) (e .barcode .height) (e .barcode .line)) (e .barcode .«check_digit») (e .«width_ratio») (decoded s (e .«data»))
-frameOf s (Barcode39 e) = ratioed 0x0a (e .position) (bars (e .barcode .orientation) (e .width) (e .barcode .height) (e .barcode .line)) (e .barcode .«check_digit») (e .«width_ratio») (decoded s (e .«data»))
--- "0b PDF417: rotation, row height, security, columns, rows, truncate flag, module width, data"
-frameOf s (BarcodePdf417 e) =
-    head 0x0b (e .position) ++ (rotation (e .barcode .orientation) ∷ []) ++ rowed (e .barcode) ++ (flag (e .barcode .truncate) ∷ []) ++ number (e .barcode .«module_width») ++ decoded s (e .«data»)
--- "0c Aztec: magnification, size, data"
-frameOf s (BarcodeAztec e) = head 0x0c (e .position) ++ number (e .barcode .magnification) ++ number (e .barcode .size) ++ decoded s (e .«data»)
--- "0d Data Matrix: module, columns, rows, data"
-frameOf s (BarcodeDatamatrix e) = head 0x0d (e .position) ++ number (e .barcode .height) ++ number (e .barcode .columns) ++ number (e .barcode .rows) ++ decoded s (e .«data»)
--- "0e QR: magnification, level letter (1 byte), data"
-frameOf s (BarcodeQr e) = head 0x0e (e .position) ++ number (e .barcode .magnification) ++ (level (e .«error_correction») ∷ []) ++ decoded s (e .«data»)
--- "0f MaxiCode: mode, data"
-frameOf s (Maxicode e) = head 0x0f (e .position) ++ number (e .code .mode) ++ decoded s (e .«data»)
-frameOf s (BarcodeUcpe e) = plain 0x10 (e .position) (bars (e .barcode .orientation) (e .width) (e .barcode .height) (e .barcode .line)) (decoded s (e .«data»))
+frameOf s e = plainFrame s (plainOf e)
 
 -- "00: element count"
 abbrev pub countFrame : ℕ → List ℕ

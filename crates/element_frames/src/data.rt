@@ -3,12 +3,15 @@ ghost use mathlib.Core.Path.{_≡_};
 ghost use Prim.Native.Nat.{_+_, _*_, _≤_, min};
 ghost use lib.ListN.{length};
 ghost use Rattle.text.specs.Utf8.{decode};
-ghost use Rattle.element_frames.specs.Frame.{part, decoded};
+ghost use Rattle.element_frames.specs.Frame.{part, decoded, dataBytes};
+ghost use Rattle.elements.specs.declared.plain.Data.the-variants as span;
 ghost use Rattle.element_frames.specs.Put.{PutHex};
 use crate::hex::put_decoded;
+use crate::hex::put_sized;
 use crate::hex::put_u32;
 use bytes::utf8::decoded_len;
 use elements::DataSpan;
+use elements::plain::Data;
 use numbers::blank::first;
 use text::num::min;
 
@@ -21,9 +24,10 @@ pub fn part(input: &[u8], d: DataSpan) -> &[u8]
 }
 
 // Decoded data: its length and then its bytes.
-pub fn put_data(input: &[u8], out: &mut [u8], at: usize, d: DataSpan) -> usize
+fn put_decoded_data(input: &[u8], out: &mut [u8], at: usize, d: DataSpan) -> usize
     requires { ⌜ at + 2 * (4 + length (decode (part (now input) d))) ≤ length (now out) ⌝ }
-    ensures { λ r. ⌜ PutHex (now (out .exit)) (now (out .entry)) at (decoded (now (input .entry)) d) (4 + length (decode (part (now (input .entry)) d))) r ⌝ }
+    ensures { λ r. ⌜ PutHex (now (out .exit)) (now (out .entry)) at (decoded (now (input .entry)) d)
+        (4 + length (decode (part (now (input .entry)) d))) r ⌝ }
 {
     let p = part(input, d);
     let n = decoded_len(p, out.len());
@@ -31,8 +35,31 @@ pub fn put_data(input: &[u8], out: &mut [u8], at: usize, d: DataSpan) -> usize
     put_decoded(p, out, a)
 }
 
-// The length of a frame of decoded data and fixed bytes more, 4294967295 at most.
-pub fn with_decoded(fixed: usize, input: &[u8], d: DataSpan) -> usize
+// A payload: its total, and then itself with its length.
+fn put_payload(input: &[u8], out: &mut [u8], at: usize, d: DataSpan) -> usize
+    requires { ⌜ at + 2 * (8 + length (part (now input) d)) ≤ length (now out) ⌝ }
+    ensures { λ r. ⌜ PutHex (now (out .exit)) (now (out .entry)) at (dataBytes (now (input .entry)) (span.Payload d))
+        (8 + length (part (now (input .entry)) d)) r ⌝ }
+{
+    let payload = part(input, d);
+    let a = put_u32(out, at, payload.len());
+    put_sized(payload, out, a)
+}
+
+pub fn put_data(input: &[u8], out: &mut [u8], at: usize, d: Data) -> usize
+    requires { ⌜ at + 2 * length (dataBytes (now input) d) ≤ length (now out) ⌝ }
+    ensures { λ r. ⌜ PutHex (now (out .exit)) (now (out .entry)) at (dataBytes (now (input .entry)) d)
+        (length (dataBytes (now (input .entry)) d)) r ⌝ }
+{
+    match d {
+        Data::Nothing => at,
+        Data::Payload(span) => put_payload(input, out, at, span),
+        Data::Decoded(span) => put_decoded_data(input, out, at, span),
+    }
+}
+
+// The length of decoded data and fixed bytes more, 4294967295 at most.
+fn with_decoded(fixed: usize, input: &[u8], d: DataSpan) -> usize
     requires { ⌜ fixed ≤ 4294967295 ⌝ }
     ensures { λ r. ⌜ r ≡ min 4294967295 (fixed + length (decode (part (now (input .entry)) d))) ⌝ }
 {
@@ -40,9 +67,21 @@ pub fn with_decoded(fixed: usize, input: &[u8], d: DataSpan) -> usize
 }
 
 // The same of data as it stands.
-pub fn with_payload(fixed: usize, input: &[u8], d: DataSpan) -> usize
+fn with_payload(fixed: usize, input: &[u8], d: DataSpan) -> usize
     requires { ⌜ fixed ≤ 4294967295 ⌝ }
     ensures { λ r. ⌜ r ≡ min 4294967295 (fixed + length (part (now (input .entry)) d)) ⌝ }
 {
     fixed + min(part(input, d).len(), 4294967295 - fixed)
+}
+
+// The length of a frame of data and fixed bytes more, 4294967295 at most.
+pub fn with_data(fixed: usize, input: &[u8], d: Data) -> usize
+    requires { ⌜ fixed ≤ 31 ⌝ }
+    ensures { λ r. ⌜ r ≡ min 4294967295 (fixed + length (dataBytes (now (input .entry)) d)) ⌝ }
+{
+    match d {
+        Data::Nothing => fixed,
+        Data::Payload(span) => with_payload(fixed + 8, input, span),
+        Data::Decoded(span) => with_decoded(fixed + 4, input, span),
+    }
 }

@@ -3,7 +3,7 @@ ghost use mathlib.Core.List.{_∷_, []};
 ghost use mathlib.Core.Path.{_≡_};
 ghost use Prim.Native.Nat.{_+_, _≤_};
 ghost use lib.ListN.{length};
-ghost use Rattle.element_frames.specs.Frame.{flag, rotation, colour, mode, level, head, bars};
+ghost use Rattle.element_frames.specs.Frame.{flag, rotation, colour, mode, level, head, barBytes};
 ghost use Rattle.element_frames.specs.Put.{PutHex};
 use crate::hex::put_byte;
 use crate::hex::put_i32;
@@ -12,6 +12,7 @@ use elements::FieldOrientation;
 use elements::LabelPosition;
 use elements::LineColor;
 use elements::QrErrorCorrectionLevel;
+use elements::plain::Bars;
 
 pub fn flag(b: bool) -> u8
     ensures { λ r. ⌜ r ≡ flag b ⌝ }
@@ -86,19 +87,13 @@ pub fn put_head(out: &mut [u8], at: usize, kind: u8, p: LabelPosition) -> usize
 }
 
 // Rotation, narrow bar, height and line.
-pub fn put_bars(
-    out: &mut [u8],
-    at: usize,
-    o: FieldOrientation,
-    narrow: i32,
-    height: i32,
-    line: bool,
-) -> usize
+pub fn put_bars(out: &mut [u8], at: usize, b: Bars) -> usize
     requires { ⌜ at + 20 ≤ length (now out) ⌝ }
-    ensures { λ r. ⌜ PutHex (now (out .exit)) (now (out .entry)) at (bars o narrow height line) 10 r ⌝ }
+    ensures { λ r. ⌜ PutHex (now (out .exit)) (now (out .entry)) at (barBytes b) 10 r ⌝ }
 {
-    let a = put_rotation(out, at, o);
-    let b = put_i32(out, a, narrow);
-    let c = put_i32(out, b, height);
-    put_flag(out, c, line)
+    let turned = b.orientation;
+    let a = put_rotation(out, at, turned);
+    let c = put_i32(out, a, b.narrow);
+    let d = put_i32(out, c, b.height);
+    put_flag(out, d, b.line)
 }

@@ -56,7 +56,7 @@ pub fn put_f64(out: &mut [u8], at: usize, x: f64) -> usize
     put_u32(out, a, bits)
 }
 
-pub fn put_bytes(src: &[u8], out: &mut [u8], at: usize) -> usize
+pub(crate) fn put_bytes(src: &[u8], out: &mut [u8], at: usize) -> usize
     requires { ⌜ at + 2 * length (now src) ≤ length (now out) ⌝ }
     ensures { λ r. ⌜ PutHex (now (out .exit)) (now (out .entry)) at (now (src .entry)) (length (now (src .entry))) r ⌝ }
 {
@@ -70,7 +70,7 @@ pub fn put_bytes(src: &[u8], out: &mut [u8], at: usize) -> usize
 }
 
 // The length of src and then its bytes.
-pub fn put_sized(src: &[u8], out: &mut [u8], at: usize) -> usize
+pub(crate) fn put_sized(src: &[u8], out: &mut [u8], at: usize) -> usize
     requires { ⌜ at + 2 * (4 + length (now src)) ≤ length (now out) ⌝ }
     ensures { λ r. ⌜ PutHex (now (out .exit)) (now (out .entry)) at (sized (now (src .entry))) (4 + length (now (src .entry))) r ⌝ }
 {
@@ -79,7 +79,7 @@ pub fn put_sized(src: &[u8], out: &mut [u8], at: usize) -> usize
 }
 
 // What the part p is decoded to.
-pub fn put_part(p: &[u8], out: &mut [u8], at: usize) -> usize
+pub(crate) fn put_part(p: &[u8], out: &mut [u8], at: usize) -> usize
     requires { ⌜ at + 2 * length (shown (now p)) ≤ length (now out) ⌝ }
     ensures { λ r. ⌜ PutHex (now (out .exit)) (now (out .entry)) at (shown (now (p .entry))) (length (shown (now (p .entry)))) r ⌝ }
 {
@@ -91,7 +91,7 @@ pub fn put_part(p: &[u8], out: &mut [u8], at: usize) -> usize
 }
 
 // What src is decoded to.
-pub fn put_decoded(src: &[u8], out: &mut [u8], at: usize) -> usize
+pub(crate) fn put_decoded(src: &[u8], out: &mut [u8], at: usize) -> usize
     requires { ⌜ at + 2 * length (decode (now src)) ≤ length (now out) ⌝ }
     ensures { λ r. ⌜ PutHex (now (out .exit)) (now (out .entry)) at (decode (now (src .entry))) (length (decode (now (src .entry)))) r ⌝ }
 {

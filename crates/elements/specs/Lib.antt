@@ -1,3 +1,5 @@
+-- 01, "Frames": kind, position, data and fields of an element
+pub mod Plain
 -- 01, "Who causes which number"
 pub mod Refusals
 -- 01, "Forms that change": where an element's data lies

@@ -6,52 +6,30 @@ ghost use Rattle.text.specs.Wrote.{Put};
 ghost use Rattle.element_frames.specs.Frame.{frameOf, countFrame, refusalFrame};
 ghost use Rattle.element_frames.specs.Hex.{lineOf};
 ghost use Rattle.element_frames.specs.Put.{PutHex};
-use crate::kinds::put_2of5;
-use crate::kinds::put_39;
-use crate::kinds::put_128;
-use crate::kinds::put_aztec;
-use crate::kinds::put_box;
-use crate::kinds::put_datamatrix;
-use crate::kinds::put_diagonal;
-use crate::kinds::put_ean8;
-use crate::kinds::put_ean13;
-use crate::kinds::put_graphic;
-use crate::kinds::put_maxicode;
-use crate::kinds::put_pdf417;
-use crate::kinds::put_qr;
-use crate::kinds::put_text;
-use crate::kinds::put_upca;
-use crate::kinds::put_upce;
-use element_frames::data::with_decoded;
-use element_frames::data::with_payload;
+use crate::kinds::fields_len;
+use crate::kinds::put_fields;
+use element_frames::data::put_data;
+use element_frames::data::with_data;
+use element_frames::fields::put_head;
 use element_frames::hex::put_byte;
 use element_frames::hex::put_lf;
 use element_frames::hex::put_u32;
 use elements::LabelElement;
+use elements::plain::plain_of;
 
 // The digits of an element's frame.
 fn put_element(input: &[u8], out: &mut [u8], at: usize, e: LabelElement) -> usize
     requires { ⌜ at + 2 * length (frameOf (now input) e) ≤ length (now out) ⌝ }
-    ensures { λ r. ⌜ PutHex (now (out .exit)) (now (out .entry)) at (frameOf (now (input .entry)) e) (length (frameOf (now (input .entry)) e)) r ⌝ }
+    ensures { λ r. ⌜ PutHex (now (out .exit)) (now (out .entry)) at (frameOf (now (input .entry)) e)
+        (length (frameOf (now (input .entry)) e)) r ⌝ }
 {
-    match e {
-        LabelElement::Text(f) => put_text(input, out, at, f),
-        LabelElement::GraphicBox(f) => put_box(out, at, f),
-        LabelElement::DiagonalLine(f) => put_diagonal(out, at, f),
-        LabelElement::GraphicField(f) => put_graphic(input, out, at, f),
-        LabelElement::Barcode128(f) => put_128(input, out, at, f),
-        LabelElement::BarcodeEan13(f) => put_ean13(input, out, at, f),
-        LabelElement::BarcodeEan8(f) => put_ean8(input, out, at, f),
-        LabelElement::BarcodeUca(f) => put_upca(input, out, at, f),
-        LabelElement::Barcode2of5(f) => put_2of5(input, out, at, f),
-        LabelElement::Barcode39(f) => put_39(input, out, at, f),
-        LabelElement::BarcodePdf417(f) => put_pdf417(input, out, at, f),
-        LabelElement::BarcodeAztec(f) => put_aztec(input, out, at, f),
-        LabelElement::BarcodeDatamatrix(f) => put_datamatrix(input, out, at, f),
-        LabelElement::BarcodeQr(f) => put_qr(input, out, at, f),
-        LabelElement::Maxicode(f) => put_maxicode(input, out, at, f),
-        LabelElement::BarcodeUcpe(f) => put_upce(input, out, at, f),
-    }
+    let p = plain_of(e);
+    let position = p.position;
+    let fields = p.fields;
+    let data = p.data;
+    let a = put_head(out, at, p.kind, position);
+    let b = put_fields(out, a, fields);
+    put_data(input, out, b, data)
 }
 
 // The line of an element's frame.
@@ -88,22 +66,8 @@ pub fn put_refusal(out: &mut [u8], at: usize, number: u8, place: usize) -> usize
 pub fn frame_len(input: &[u8], e: LabelElement) -> usize
     ensures { λ r. ⌜ r ≡ min 4294967295 (length (frameOf (now (input .entry)) e)) ⌝ }
 {
-    match e {
-        LabelElement::Text(f) => with_decoded(31, input, f.text),
-        LabelElement::GraphicBox(_) => 22,
-        LabelElement::DiagonalLine(_) => 22,
-        LabelElement::GraphicField(f) => with_payload(21, input, f.data),
-        LabelElement::Barcode128(f) => with_decoded(24, input, f.data),
-        LabelElement::BarcodeEan13(f) => with_decoded(23, input, f.data),
-        LabelElement::BarcodeEan8(f) => with_decoded(23, input, f.data),
-        LabelElement::BarcodeUca(f) => with_decoded(23, input, f.data),
-        LabelElement::Barcode2of5(f) => with_decoded(32, input, f.data),
-        LabelElement::Barcode39(f) => with_decoded(32, input, f.data),
-        LabelElement::BarcodePdf417(f) => with_decoded(35, input, f.data),
-        LabelElement::BarcodeAztec(f) => with_decoded(21, input, f.data),
-        LabelElement::BarcodeDatamatrix(f) => with_decoded(25, input, f.data),
-        LabelElement::BarcodeQr(f) => with_decoded(18, input, f.data),
-        LabelElement::Maxicode(f) => with_decoded(17, input, f.data),
-        LabelElement::BarcodeUcpe(f) => with_decoded(23, input, f.data),
-    }
+    let p = plain_of(e);
+    let fields = p.fields;
+    let data = p.data;
+    with_data(9 + fields_len(fields), input, data)
 }

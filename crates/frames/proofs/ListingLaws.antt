@@ -6,18 +6,13 @@ use denote.Enum.Declared.{tagOf, declared}
 use Prim.Native.Nat.{ℕ, _+_, _*_, _≤_, min}
 use native.Mathlib.Omega.{arith}
 use native.Mathlib.Nat.{add-zero, zero-add, min-eq-right, min-le-left}
-use lib.ListN.{length, length-append, length-take, length-drop, drop}
-use Rattle.elements.specs.declared.DataSpan.{DataSpan}
+use lib.ListN.{length, length-append}
 use Rattle.elements.specs.declared.LabelElement.{LabelElement}
-use Rattle.elements.specs.declared.LabelElement.the-variants.{Text, GraphicBox, DiagonalLine, GraphicField, Barcode128, BarcodeEan13, BarcodeEan8, BarcodeUca, Barcode2of5, Barcode39, BarcodePdf417, BarcodeAztec, BarcodeDatamatrix, BarcodeQr, Maxicode, BarcodeUcpe}
-use Rattle.element_frames.specs.Frame.{part, frameOf, countFrame}
+use Rattle.element_frames.specs.Frame.{frameOf, countFrame}
 use Rattle.element_frames.specs.Hex.{lineOf}
 use Rattle.element_frames.proofs.HexLaws.{length-line, length-be32}
-use Rattle.element_frames.proofs.FrameLaws.{length-frame}
-use Rattle.element_frames.proofs.FrameLaws as frame-laws
-use Rattle.text.specs.Utf8.{decode}
+use Rattle.element_frames.proofs.FrameLaws.{frame-in}
 use Rattle.text.specs.Wrote.{Put}
-use Rattle.text.proofs.Utf8Laws.{length-decode-le}
 use Rattle.text.proofs.WroteLaws.{wrote, sets-append}
 use Rattle.whole.specs.Reach.{Final, accepted, refusal}
 use Rattle.whole.specs.Step.{step, longest}
@@ -62,30 +57,6 @@ pub length-label : (n : ℕ) (q : Unit) (p : List (List ℕ)) → length (labelL
 length-label n q p = omega (arith, length-append (lineOf (countFrame n)) (linesOf p), length-count n)
 
 -- the frames of an input that the walk takes are counted exactly
-part-in : (s : List ℕ) (d : DataSpan) → length (decode (part s d)) ≤ 3 * length s
-part-in s d = omega (arith, length-decode-le (part s d), length-take (d .len) (drop (d .start) s), length-drop (d .start) s)
-
-frame-in : (s : List ℕ) (e : LabelElement) → length (frameOf s e) ≤ 35 + 3 * length s
-frame-in s e = by e (length-frame s e)
-  where
-    by : (e : LabelElement) → length (frameOf s e) ≡ frame-laws.frameSize s e → length (frameOf s e) ≤ 35 + 3 * length s
-    by (Text e) q = omega (arith, part-in s (e .text))
-    by (GraphicBox e) q = omega arith
-    by (DiagonalLine e) q = omega arith
-    by (GraphicField e) q = omega (arith, length-take (e .«data» .len) (drop (e .«data» .start) s), length-drop (e .«data» .start) s)
-    by (Barcode128 e) q = omega (arith, part-in s (e .«data»))
-    by (BarcodeEan13 e) q = omega (arith, part-in s (e .«data»))
-    by (BarcodeEan8 e) q = omega (arith, part-in s (e .«data»))
-    by (BarcodeUca e) q = omega (arith, part-in s (e .«data»))
-    by (Barcode2of5 e) q = omega (arith, part-in s (e .«data»))
-    by (Barcode39 e) q = omega (arith, part-in s (e .«data»))
-    by (BarcodePdf417 e) q = omega (arith, part-in s (e .«data»))
-    by (BarcodeAztec e) q = omega (arith, part-in s (e .«data»))
-    by (BarcodeDatamatrix e) q = omega (arith, part-in s (e .«data»))
-    by (BarcodeQr e) q = omega (arith, part-in s (e .«data»))
-    by (Maxicode e) q = omega (arith, part-in s (e .«data»))
-    by (BarcodeUcpe e) q = omega (arith, part-in s (e .«data»))
-
 pub frame-len-le : (s : List ℕ) (e : LabelElement) (n : ℕ) → n ≡ min 4294967295 (length (frameOf s e)) → n ≤ 4294967295
 frame-len-le s e n q = rw q (min-le-left 4294967295 (length (frameOf s e)))
 

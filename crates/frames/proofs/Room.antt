@@ -9,9 +9,13 @@ use lib.ListN.{length, length-append}
 use borrow.Author.Tests.{le-ltb}
 use Rattle.elements.specs.declared.DataSpan.{DataSpan}
 use Rattle.elements.specs.declared.LabelElement.{LabelElement}
-use Rattle.elements.specs.declared.LabelElement.the-variants.{Text, GraphicBox, DiagonalLine, GraphicField, Barcode128, BarcodeEan13, BarcodeEan8, BarcodeUca, Barcode2of5, Barcode39, BarcodePdf417, BarcodeAztec, BarcodeDatamatrix, BarcodeQr, Maxicode, BarcodeUcpe}
+use Rattle.elements.specs.declared.LabelElement.the-variants.{GraphicField}
 use Rattle.elements.specs.declared.LabelPosition.{LabelPosition}
-use Rattle.elements.specs.Spans.{spans, later, shifted}
+use Rattle.elements.specs.declared.plain.Data.{Data}
+use Rattle.elements.specs.declared.plain.Data.the-variants.{Nothing, Payload, Decoded}
+use Rattle.elements.specs.Plain.{plainOf}
+use Rattle.elements.specs.Spans.{spansIn, spans, later, shifted}
+use Rattle.elements.proofs.PlainLaws.{spans-shifted}
 use Rattle.element_frames.specs.Frame.{frameOf, lens}
 use Rattle.element_frames.proofs.FrameLaws.{frame-le, frame-plain}
 use Rattle.parameters.specs.declared.position.Placed.{Placed}
@@ -29,7 +33,7 @@ use Rattle.grammar.specs.Units.{Header, EplUnit, block, line, last, gw, bytes, 
 use Rattle.grammar.specs.Epl.{epl, acts, blockSays}
 use Rattle.grammar.proofs.FoundLaws.{reads}
 use Rattle.grammar.proofs.BlockLaws.{block-length}
-use Rattle.grammar.proofs.SpanLaws.{spans-shifted, act-yields}
+use Rattle.grammar.proofs.SpanLaws.{act-yields}
 use Rattle.grammar.proofs.LengthLaws.{Long, line-long}
 use Rattle.elements.specs.Walk.{fresh}
 use Rattle.walk.specs.Steps.{stateOf, traceOf}
@@ -38,23 +42,10 @@ use Rattle.frames.specs.Printing.{shownOf, refusalBy, shownBy, printedOf
 use Rattle.frames.proofs.ListingLaws.{length-lines, length-label}
 
 -- an element has one span of data or none
-one-span : (e : LabelElement) → (spans e ≡ []) ⊎ ((d : DataSpan) × (spans e ≡ d ∷ []))
-one-span (Text e) = inr (_, refl)
-one-span (GraphicBox e) = inl refl
-one-span (DiagonalLine e) = inl refl
-one-span (GraphicField e) = inr (_, refl)
-one-span (Barcode128 e) = inr (_, refl)
-one-span (BarcodeEan13 e) = inr (_, refl)
-one-span (BarcodeEan8 e) = inr (_, refl)
-one-span (BarcodeUca e) = inr (_, refl)
-one-span (Barcode2of5 e) = inr (_, refl)
-one-span (Barcode39 e) = inr (_, refl)
-one-span (BarcodePdf417 e) = inr (_, refl)
-one-span (BarcodeAztec e) = inr (_, refl)
-one-span (BarcodeDatamatrix e) = inr (_, refl)
-one-span (BarcodeQr e) = inr (_, refl)
-one-span (Maxicode e) = inr (_, refl)
-one-span (BarcodeUcpe e) = inr (_, refl)
+one-span : (d : Data) → (spansIn d ≡ []) ⊎ ((x : DataSpan) × (spansIn d ≡ x ∷ []))
+one-span Nothing = inl refl
+one-span (Payload d) = inr (d, refl)
+one-span (Decoded d) = inr (d, refl)
 
 -- a line of 2 digits a byte and an LF, and the 11 bytes of frame 00's line
 abbrev Pays : ℕ → LabelElement → Type 0
@@ -62,10 +53,10 @@ Pays k e = (s : List ℕ) → 2 * length (frameOf s e) + 12 ≤ 16 * k
 
 -- a unit of n bytes whose element has the data ds: enough for its frame, or with a header of six bytes
 abbrev Enough : ℕ → List DataSpan → Type 0
-Enough n ds = (ds ≡ [] → 5 ≤ n) × ((d : DataSpan) → ds ≡ d ∷ [] → 82 + 6 * d .len ≤ 16 * n)
+Enough n ds = (ds ≡ [] → 5 ≤ n) × ((d : DataSpan) → ds ≡ d ∷ [] → 90 + 6 * d .len ≤ 16 * n)
 
 enough-pays : (n at : ℕ) (e : LabelElement) → Enough n (spans e) → Pays n (shifted at e)
-enough-pays n at e h s = by (one-span e)
+enough-pays n at e h s = by (one-span (plainOf e .«data»))
   where
     by : (spans e ≡ []) ⊎ ((d : DataSpan) × (spans e ≡ d ∷ [])) → 2 * length (frameOf s (shifted at e)) + 12 ≤ 16 * n
     by (inl q) = omega (arith, h .0 q, frame-plain s (shifted at e) (spans-shifted at e ∙ ap (map (later at)) q))

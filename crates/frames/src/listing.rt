@@ -74,7 +74,7 @@ fn put_labels(input: &[u8], out: &mut [u8]) -> usize
 }
 
 // The length of the listing, or the refusal of the walk: one walk over the whole input, nothing written.
-pub fn measure(input: &[u8]) -> Filled
+pub(crate) fn measure(input: &[u8]) -> Filled
     ensures { λ r. ⌜ givenOf r ≡ needed (dueOf (now (input .entry))) ⌝ }
 {
     let mut here = start();

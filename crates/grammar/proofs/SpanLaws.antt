@@ -1,7 +1,7 @@
 -- The data of what a line yields lies in the line.
 -- Assumes nothing.
-use mathlib.Core.Path.{_≡_, refl}
-use mathlib.Core.List.{List, map, reverse}
+use mathlib.Core.Path.{_≡_}
+use mathlib.Core.List.{List, reverse}
 use Prim.Native.Nat.{ℕ, suc, _+_, _-_, _<_, _≤_}
 use native.Mathlib.Omega.{arith}
 use lib.Dec.{eqb}
@@ -11,9 +11,8 @@ use Rattle.text.specs.Blank.{trim}
 use Rattle.text.specs.Fields.{indexOf, after, beforeLast, quoted}
 use Rattle.text.proofs.BoolLaws.{test}
 use Rattle.elements.specs.declared.LabelElement.{LabelElement}
-use Rattle.elements.specs.declared.LabelElement.the-variants.{Text, GraphicBox, DiagonalLine, GraphicField, Barcode128, BarcodeEan13, BarcodeEan8, BarcodeUca, Barcode2of5, Barcode39, BarcodePdf417, BarcodeAztec, BarcodeDatamatrix, BarcodeQr, Maxicode, BarcodeUcpe}
 use Rattle.elements.specs.declared.LabelPosition.{LabelPosition}
-use Rattle.elements.specs.Spans.{later, shifted, spans, AllIn, In}
+use Rattle.elements.specs.Spans.{AllIn, In}
 use Rattle.parameters.specs.declared.reading.Reading.{Reading}
 use Rattle.parameters.specs.declared.reading.Reading.the-variants as reading
 use Rattle.spelling.specs.declared.command.Command.{Command}
@@ -25,25 +24,6 @@ use Rattle.commands.proofs.LineLaws.{lead-le}
 use Rattle.whole.specs.Language.{yield}
 use Rattle.grammar.specs.Epl.{actOf}
 use Rattle.grammar.proofs.ReadingLaws.{dataOf, yielded}
-
--- where data stands that is moved
-pub spans-shifted : (n : ℕ) (e : LabelElement) → spans (shifted n e) ≡ map (later n) (spans e)
-spans-shifted n (Text e) = refl
-spans-shifted n (GraphicBox e) = refl
-spans-shifted n (DiagonalLine e) = refl
-spans-shifted n (GraphicField e) = refl
-spans-shifted n (Barcode128 e) = refl
-spans-shifted n (BarcodeEan13 e) = refl
-spans-shifted n (BarcodeEan8 e) = refl
-spans-shifted n (BarcodeUca e) = refl
-spans-shifted n (Barcode2of5 e) = refl
-spans-shifted n (Barcode39 e) = refl
-spans-shifted n (BarcodePdf417 e) = refl
-spans-shifted n (BarcodeAztec e) = refl
-spans-shifted n (BarcodeDatamatrix e) = refl
-spans-shifted n (BarcodeQr e) = refl
-spans-shifted n (Maxicode e) = refl
-spans-shifted n (BarcodeUcpe e) = refl
 
 after-length : (b : ℕ) (s : List ℕ) → length (after b s) ≡ length s - suc (indexOf b s)
 unfolding after

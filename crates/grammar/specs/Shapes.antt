@@ -9,8 +9,8 @@ use Rattle.text.specs.Blank.{trim}
 use Rattle.text.specs.Fields.{field}
 use Rattle.text.specs.Table.{Row, row, meaning}
 use Rattle.elements.specs.declared.LabelElement.{LabelElement}
-use Rattle.elements.specs.declared.LabelElement.the-variants as element
 use Rattle.elements.specs.declared.LabelPosition.{LabelPosition}
+use Rattle.elements.specs.Plain.{plainOf}
 use Rattle.spelling.specs.declared.command.Command.{Command}
 use Rattle.spelling.specs.declared.command.Command.the-variants.{Clear, Reference, Data, Line, Diagonal, Box, Print}
 use Rattle.spelling.specs.declared.command.Command.the-variants.{Other}
@@ -21,44 +21,13 @@ use Rattle.commands.specs.Line.{paramsOf}
 use Rattle.grammar.specs.Units.{EplUnit, block, line, last}
 use Rattle.grammar.specs.Ranges.{sizesOf}
 
--- "01 text", "02 box", "03 diagonal", "04 graphic", "05 Code 128", "06 EAN-13, 07 EAN-8, 08 UPC-A, 10 UPC-E", "09 2
--- of 5, 0a Code 39", "0b PDF417", "0c Aztec", "0d Data Matrix", "0e QR", "0f MaxiCode"
+-- "All others begin kind, x, y": an element's kind
 abbrev pub kindOf : LabelElement → ℕ
-kindOf (element.Text e) = 0x01
-kindOf (element.GraphicBox e) = 0x02
-kindOf (element.DiagonalLine e) = 0x03
-kindOf (element.GraphicField e) = 0x04
-kindOf (element.Barcode128 e) = 0x05
-kindOf (element.BarcodeEan13 e) = 0x06
-kindOf (element.BarcodeEan8 e) = 0x07
-kindOf (element.BarcodeUca e) = 0x08
-kindOf (element.Barcode2of5 e) = 0x09
-kindOf (element.Barcode39 e) = 0x0a
-kindOf (element.BarcodePdf417 e) = 0x0b
-kindOf (element.BarcodeAztec e) = 0x0c
-kindOf (element.BarcodeDatamatrix e) = 0x0d
-kindOf (element.BarcodeQr e) = 0x0e
-kindOf (element.Maxicode e) = 0x0f
-kindOf (element.BarcodeUcpe e) = 0x10
+kindOf e = plainOf e .kind
 
 -- where an element stands
 abbrev pub placeOf : LabelElement → LabelPosition
-placeOf (element.Text e) = e .position
-placeOf (element.GraphicBox e) = e .position
-placeOf (element.DiagonalLine e) = e .position
-placeOf (element.GraphicField e) = e .position
-placeOf (element.Barcode128 e) = e .position
-placeOf (element.BarcodeEan13 e) = e .position
-placeOf (element.BarcodeEan8 e) = e .position
-placeOf (element.BarcodeUca e) = e .position
-placeOf (element.Barcode2of5 e) = e .position
-placeOf (element.Barcode39 e) = e .position
-placeOf (element.BarcodePdf417 e) = e .position
-placeOf (element.BarcodeAztec e) = e .position
-placeOf (element.BarcodeDatamatrix e) = e .position
-placeOf (element.BarcodeQr e) = e .position
-placeOf (element.Maxicode e) = e .position
-placeOf (element.BarcodeUcpe e) = e .position
+placeOf e = plainOf e .position
 
 -- the kinds by the type of `B`, apart from the readers' table: "`0` is Code 128 .., `1E` .., `1`, `1A`, `1B`, `1C` ..;
 -- `2` is 2 of 5 .., `2C` and `2D` ..; `3` is Code 39 .., `3C` ..; `E30` EAN-13, `E80` EAN-8, `UA0` UPC-A, `UE0` UPC-E"

@@ -9,12 +9,11 @@ use lib.ListN.{length, take}
 use Rattle.text.proofs.WhiteLaws.{code-points-trim}
 use Rattle.texts.proofs.FontLaws.{width-exact}
 use Rattle.elements.specs.declared.LabelElement.{LabelElement}
-use Rattle.elements.specs.declared.LabelElement.the-variants as element
 use Rattle.elements.specs.declared.refusal.Refusal.{Refusal}
 use Rattle.elements.specs.declared.refusal.Refusal.the-variants.{TextFields, BarcodeFields, Barcode2dFields, LineFields, DiagonalFields, BoxFields, BarcodeType, Barcode2dType, QrData, GraphicFields, GraphicNegative, GraphicTruncated, OutOfRange, InputTooLong, OutputTooShort, StateOutside}
 use Rattle.elements.specs.Refusals.{numberOf}
 use Rattle.elements.specs.Walk.{fresh}
-use Rattle.element_frames.specs.Frame.{be32, head, drawn, plain, ratioed, frameOf}
+use Rattle.element_frames.specs.Frame.{be32, head, frameOf}
 use Rattle.element_frames.proofs.FrameLaws.{frame-local}
 use Rattle.whole.specs.Step.{longest}
 use Rattle.whole.specs.Division.{Division}
@@ -192,23 +191,8 @@ numbered-of StateOutside = (omega arith, omega arith)
 -- ---- demand 2
 -- "All others begin kind, x, y"
 begins-of : (s : List ℕ) (e : LabelElement) → take 9 (frameOf s e) ≡ head (kindOf e) (placeOf e)
-unfolding be32 head drawn plain ratioed frameOf
-begins-of s (element.Text e) = refl
-begins-of s (element.GraphicBox e) = refl
-begins-of s (element.DiagonalLine e) = refl
-begins-of s (element.GraphicField e) = refl
-begins-of s (element.Barcode128 e) = refl
-begins-of s (element.BarcodeEan13 e) = refl
-begins-of s (element.BarcodeEan8 e) = refl
-begins-of s (element.BarcodeUca e) = refl
-begins-of s (element.Barcode2of5 e) = refl
-begins-of s (element.Barcode39 e) = refl
-begins-of s (element.BarcodePdf417 e) = refl
-begins-of s (element.BarcodeAztec e) = refl
-begins-of s (element.BarcodeDatamatrix e) = refl
-begins-of s (element.BarcodeQr e) = refl
-begins-of s (element.Maxicode e) = refl
-begins-of s (element.BarcodeUcpe e) = refl
+unfolding be32 head frameOf
+begins-of s e = refl
 
 ill-lines : (t : List ℕ) (n : ℕ) → ((wellFormed t ≡ false) × (faultOf t ≡ n)) ↔ LineFault t n
 ill-lines t n = ((λ h. subst (LineFault t) (h .1) (ill-has-fault t (h .0))), fault-is-ill t)

@@ -16,7 +16,7 @@ use Rattle.whole.specs.Step.{State, state, Answer, element, cleared, printed, e
 use Rattle.grammar.specs.Units.{EplUnit, bytes}
 use Rattle.grammar.specs.Epl.{acts, epl}
 use Rattle.grammar.proofs.FoundLaws.{reads}
-use Rattle.grammar.proofs.SpanLaws.{spans-shifted}
+use Rattle.elements.proofs.PlainLaws.{spans-shifted}
 use Rattle.units.proofs.UnitLaws.{inside}
 
 all-in-later : (n m end : ℕ) (ds : List DataSpan) → n + m ≤ end → AllIn m ds → AllIn end (map (later n) ds)

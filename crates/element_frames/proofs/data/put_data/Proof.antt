@@ -1,46 +1,59 @@
--- `element_frames::data::put_data` meets its contract: the decoded length, for which the room is enough, and then the text.
+-- `element_frames::data::put_data` meets its contract.
 -- Assumes nothing.
-use mathlib.Core.Path.{_≡_, ap}
-use mathlib.Core.List.{List}
-use Prim.Native.Nat.{ℕ}
 use native.Mathlib.Omega.{arith}
-use lib.ListN.{length}
-use Rattle.text.specs.Utf8.{decode}
-use Rattle.element_frames.specs.Frame.{be32, part}
-use Rattle.element_frames.proofs.PutLaws.{then, retold, same}
+use Rattle.element_frames.proofs.PutLaws.{nothing}
+use Rattle.element_frames.proofs.FrameLaws.{data-size-is, data-told}
 use borrow.Author.Needs.{needs}
 use Rattle.element_frames.proofs.data.put_data.Statement.{statement}
 use Rattle.element_frames.proofs.data.put_data.Tie as tie
 
-part-requires : tie.Need-part-requires
-part-requires c κs = search needs
+enum-told : tie.Need-enum-told
+enum-told c = search needs
 
-decoded-len-requires : tie.Need-decoded-len-requires
-decoded-len-requires c κs = search needs
+enum-known-d : tie.Need-enum-known-d
+enum-known-d c = search needs
 
-put-u32-requires : tie.Need-put-u32-requires
-put-u32-requires c κs = search needs
+put-payload-requires : tie.Need-put-payload-requires
+put-payload-requires c κs = let at = c .before .before in omega (arith, data-size-is (at .before .before .before .before .args .input .now) (at .d .given .1))
 
-put-decoded-requires : tie.Need-put-decoded-requires
-put-decoded-requires c κs = omega (arith, ap (λ (l : List ℕ). length (decode l)) (c .before .before .before .before .before .before .part .ensures))
+enum-known-d-2 : tie.Need-enum-known-d-2
+enum-known-d-2 c = search needs
+
+put-decoded-data-requires : tie.Need-put-decoded-data-requires
+put-decoded-data-requires c κs = let at = c .before .before in omega (arith, data-size-is (at .before .before .before .before .args .input .now) (at .d2 .given .1))
+
+returns : tie.Need-returns
+returns c = data-told (c .before .before .before .before .args .input .now) (c .enum-told .given .1) (nothing _ _)
 
 same-length : tie.Need-same-length
 same-length c = search needs
 
-returns : tie.Need-returns
-returns c =
-    let t = c .before .before .before .before .before .before .before .before .before .part .ensures in
-    let a = c .before .before .before .before .before .before .before .before .before .before .before .before .args in
-    let n : c .before .before .before .before .before .before .before .before .decoded-len .result ≡ length (decode (part (a .input .now) (a .d))) = omega (arith, ap (λ (l : List ℕ). length (decode l)) t) in
-    then (retold (ap be32 n) (c .before .before .before .before .before .before .put-u32 .ensures)) (same (ap decode t) (c .before .before .put-decoded .ensures))
+returns-2 : tie.Need-returns-2
+returns-2 c =
+    let put = c .before .before in
+    let at = put .before .before .before in
+    data-told (at .before .before .before .before .args .input .now) (at .d .given .1) (put .put-payload .ensures)
+
+same-length-2 : tie.Need-same-length-2
+same-length-2 c = search needs
+
+returns-3 : tie.Need-returns-3
+returns-3 c =
+    let put = c .before .before in
+    let at = put .before .before .before in
+    data-told (at .before .before .before .before .args .input .now) (at .d2 .given .1) (put .put-decoded-data .ensures)
 
 pub put-data-spec : {M : Type 1} → statement M
 put-data-spec =
     tie.close
     (tie.spec
-    part-requires
-    decoded-len-requires
-    put-u32-requires
-    put-decoded-requires
+    enum-told
+    enum-known-d
+    put-payload-requires
+    enum-known-d-2
+    put-decoded-data-requires
+    returns
     same-length
-    returns)
+    returns-2
+    same-length-2
+    returns-3)

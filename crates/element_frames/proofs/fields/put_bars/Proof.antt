@@ -1,7 +1,7 @@
 -- `element_frames::fields::put_bars` meets its contract.
 -- Assumes nothing.
-use mir.Facts.{toZ-ofZ}
-use Rattle.element_frames.specs.Frame.{bars}
+use Rattle.numbers.proofs.IntLaws.{back32}
+use Rattle.element_frames.specs.Frame.{barBytes}
 use Rattle.element_frames.proofs.PutLaws.{then}
 use borrow.Author.Needs.{needs}
 use Rattle.element_frames.proofs.fields.put_bars.Statement.{statement}
@@ -23,14 +23,17 @@ same-length : tie.Need-same-length
 same-length c = search needs
 
 returns : tie.Need-returns
-unfolding bars
+unfolding barBytes
 returns c =
-    let l = c .before .before in
-    let h = l .before .before .before .before in
-    let w = h .before .before .before .before in
-    let o = w .before .before .before .before in
-    let fits = o .before .before .before .fits in
-    then (then (then (o .put-rotation .ensures) (rw (toZ-ofZ (fits .narrow)) at (w .put-i32 .ensures))) (rw (toZ-ofZ (fits .height)) at (h .put-i322 .ensures))) (l .put-flag .ensures)
+    let line = c .before .before in
+    let height = line .before .before .before .before in
+    let narrow = height .before .before .before .before .before in
+    let turned = narrow .before .before .before .before .before in
+    let b = turned .before .before .before .args .b in
+    then (then (then (turned .put-rotation .ensures)
+    (rw (back32 (b .narrow) (narrow .before .struct-told .given .1 .0 .1)) at (narrow .put-i32 .ensures)))
+    (rw (back32 (b .height) (height .before .struct-told2 .given .1 .1 .0 .1)) at (height .put-i322 .ensures)))
+    (line .put-flag .ensures)
 
 pub put-bars-spec : {M : Type 1} → statement M
 put-bars-spec =

@@ -1,47 +1,29 @@
--- `frame_lines::kinds::put_aztec` meets its contract: the runs, one after the other, are the frame.
+-- `frame_lines::kinds::put_aztec` meets its contract.
 -- Assumes nothing.
-use native.Mathlib.Omega.{arith}
 use Rattle.numbers.proofs.IntLaws.{back32}
-use Rattle.element_frames.specs.Frame.{frameOf}
-use Rattle.element_frames.proofs.PutLaws.{then, counted}
+use Rattle.element_frames.specs.Frame.{fieldBytes}
+use Rattle.element_frames.proofs.PutLaws.{then}
 use borrow.Author.Needs.{needs}
 use Rattle.frame_lines.proofs.kinds.put_aztec.Statement.{statement}
 use Rattle.frame_lines.proofs.kinds.put_aztec.Tie as tie
 
-put-head-requires : tie.Need-put-head-requires
-put-head-requires c κs = omega arith
-
 put-i32-requires : tie.Need-put-i32-requires
-put-i32-requires c κs = omega arith
+put-i32-requires c κs = search needs
 
 put-i32-requires-2 : tie.Need-put-i32-requires-2
-put-i32-requires-2 c κs = omega arith
-
-put-data-requires : tie.Need-put-data-requires
-put-data-requires c κs = omega arith
+put-i32-requires-2 c κs = search needs
 
 same-length : tie.Need-same-length
 same-length c = search needs
 
 returns : tie.Need-returns
-unfolding frameOf
+unfolding fieldBytes
 returns c =
-    let d = c .before .before in
-    let z = d .before .before .before .before in
-    let m = z .before .before .before .before .before in
-    let k = m .before .before .before .before .before in
-    let e = k .before .before .before .before .before .before .before .args .e in
-    counted (omega arith)
-    (then (then (then (k .put-head .ensures) (rw (back32 (e .barcode .magnification) (m .before .struct-told .given .0 .1)) at (m .put-i32 .ensures))) (rw (back32 (e .barcode .size) (z .before .struct-told2 .given .1 .0 .1)) at (z .put-i322 .ensures)))
-    (d .put-data .ensures))
+    let size = c .before .before in
+    let magnification = size .before .before .before .before .before in
+    let b = magnification .before .before .before .before .args .b in
+    then (rw (back32 (b .magnification) (magnification .before .struct-told .given .0 .1)) at (magnification .put-i32 .ensures))
+    (rw (back32 (b .size) (size .before .struct-told2 .given .1 .0 .1)) at (size .put-i322 .ensures))
 
 pub put-aztec-spec : {M : Type 1} → statement M
-put-aztec-spec =
-    tie.close
-    (tie.spec
-    put-head-requires
-    put-i32-requires
-    put-i32-requires-2
-    put-data-requires
-    same-length
-    returns)
+put-aztec-spec = tie.close (tie.spec put-i32-requires put-i32-requires-2 same-length returns)

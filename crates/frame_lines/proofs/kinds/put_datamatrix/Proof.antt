@@ -1,53 +1,35 @@
--- `frame_lines::kinds::put_datamatrix` meets its contract: the runs, one after the other, are the frame.
+-- `frame_lines::kinds::put_datamatrix` meets its contract.
 -- Assumes nothing.
-use native.Mathlib.Omega.{arith}
 use Rattle.numbers.proofs.IntLaws.{back32}
-use Rattle.element_frames.specs.Frame.{frameOf}
-use Rattle.element_frames.proofs.PutLaws.{then, counted}
+use Rattle.element_frames.specs.Frame.{fieldBytes}
+use Rattle.element_frames.proofs.PutLaws.{then}
 use borrow.Author.Needs.{needs}
 use Rattle.frame_lines.proofs.kinds.put_datamatrix.Statement.{statement}
 use Rattle.frame_lines.proofs.kinds.put_datamatrix.Tie as tie
 
-put-head-requires : tie.Need-put-head-requires
-put-head-requires c κs = omega arith
-
 put-i32-requires : tie.Need-put-i32-requires
-put-i32-requires c κs = omega arith
+put-i32-requires c κs = search needs
 
 put-i32-requires-2 : tie.Need-put-i32-requires-2
-put-i32-requires-2 c κs = omega arith
+put-i32-requires-2 c κs = search needs
 
 put-i32-requires-3 : tie.Need-put-i32-requires-3
-put-i32-requires-3 c κs = omega arith
-
-put-data-requires : tie.Need-put-data-requires
-put-data-requires c κs = omega arith
+put-i32-requires-3 c κs = search needs
 
 same-length : tie.Need-same-length
 same-length c = search needs
 
 returns : tie.Need-returns
-unfolding frameOf
+unfolding fieldBytes
 returns c =
-    let d = c .before .before in
-    let r = d .before .before .before .before in
-    let w = r .before .before .before .before .before in
-    let h = w .before .before .before .before .before in
-    let k = h .before .before .before .before .before in
-    let e = k .before .before .before .before .before .before .before .args .e in
-    counted (omega arith)
-    (then (then (then (then (k .put-head .ensures) (rw (back32 (e .barcode .height) (h .before .struct-told .given .0 .1)) at (h .put-i32 .ensures))) (rw (back32 (e .barcode .columns) (w .before .struct-told2 .given .1 .0 .1)) at (w .put-i322 .ensures)))
-    (rw (back32 (e .barcode .rows) (r .before .struct-told3 .given .1 .1 .0 .1)) at (r .put-i323 .ensures)))
-    (d .put-data .ensures))
+    let rows = c .before .before in
+    let columns = rows .before .before .before .before .before in
+    let height = columns .before .before .before .before .before in
+    let b = height .before .before .before .before .args .b in
+    then (then (rw (back32 (b .height) (height .before .struct-told .given .0 .1)) at (height .put-i32 .ensures))
+    (rw (back32 (b .columns) (columns .before .struct-told2 .given .1 .0 .1)) at (columns .put-i322 .ensures)))
+    (rw (back32 (b .rows) (rows .before .struct-told3 .given .1 .1 .0 .1)) at (rows .put-i323 .ensures))
 
 pub put-datamatrix-spec : {M : Type 1} → statement M
 put-datamatrix-spec =
-    tie.close
-    (tie.spec
-    put-head-requires
-    put-i32-requires
-    put-i32-requires-2
-    put-i32-requires-3
-    put-data-requires
-    same-length
-    returns)
+    tie.close (tie.spec put-i32-requires put-i32-requires-2 put-i32-requires-3 same-length returns)

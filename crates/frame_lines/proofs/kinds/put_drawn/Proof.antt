@@ -1,48 +1,44 @@
--- `frame_lines::kinds::put_drawn` meets its contract: the runs, one after the other, are the frame.
+-- `frame_lines::kinds::put_drawn` meets its contract.
 -- Assumes nothing.
-use native.Mathlib.Omega.{arith}
-use mir.Facts.{toZ-ofZ}
-use Rattle.element_frames.specs.Frame.{drawn}
+use Rattle.numbers.proofs.IntLaws.{back32}
+use Rattle.element_frames.specs.Frame.{extentBytes}
 use Rattle.element_frames.proofs.PutLaws.{then}
 use borrow.Author.Needs.{needs}
 use Rattle.frame_lines.proofs.kinds.put_drawn.Statement.{statement}
 use Rattle.frame_lines.proofs.kinds.put_drawn.Tie as tie
 
-put-head-requires : tie.Need-put-head-requires
-put-head-requires c κs = omega arith
-
 put-i32-requires : tie.Need-put-i32-requires
-put-i32-requires c κs = omega arith
+put-i32-requires c κs = search needs
 
 put-i32-requires-2 : tie.Need-put-i32-requires-2
-put-i32-requires-2 c κs = omega arith
+put-i32-requires-2 c κs = search needs
 
 put-i32-requires-3 : tie.Need-put-i32-requires-3
-put-i32-requires-3 c κs = omega arith
+put-i32-requires-3 c κs = search needs
 
 put-byte-requires : tie.Need-put-byte-requires
-put-byte-requires c κs = omega arith
+put-byte-requires c κs = search needs
 
 same-length : tie.Need-same-length
 same-length c = search needs
 
 returns : tie.Need-returns
-unfolding drawn
+unfolding extentBytes
 returns c =
-    let m = c .before .before in
-    let t = m .before .before .before .before in
-    let h = t .before .before .before .before in
-    let w = h .before .before .before .before in
-    let k = w .before .before .before .before in
-    let fits = k .before .before .before .fits in
-    then (then (then (then (k .put-head .ensures) (rw (toZ-ofZ (fits .width)) at (w .put-i32 .ensures))) (rw (toZ-ofZ (fits .height)) at (h .put-i322 .ensures))) (rw (toZ-ofZ (fits .thickness)) at (t .put-i323 .ensures)))
-    (m .put-byte .ensures)
+    let mark = c .before .before in
+    let thickness = mark .before .before .before .before in
+    let height = thickness .before .before .before .before .before in
+    let width = height .before .before .before .before .before in
+    let x = width .before .before .before .before .args .x in
+    then (then (then (rw (back32 (x .width) (width .before .struct-told .given .0 .1)) at (width .put-i32 .ensures))
+    (rw (back32 (x .height) (height .before .struct-told2 .given .1 .0 .1)) at (height .put-i322 .ensures)))
+    (rw (back32 (x .thickness) (thickness .before .struct-told3 .given .1 .1 .0 .1)) at (thickness .put-i323 .ensures)))
+    (mark .put-byte .ensures)
 
 pub put-drawn-spec : {M : Type 1} → statement M
 put-drawn-spec =
     tie.close
     (tie.spec
-    put-head-requires
     put-i32-requires
     put-i32-requires-2
     put-i32-requires-3

@@ -1,57 +1,47 @@
--- `frame_lines::kinds::put_pdf417` meets its contract: the runs, one after the other, are the frame.
+-- `frame_lines::kinds::put_pdf417` meets its contract.
 -- Assumes nothing.
-use native.Mathlib.Omega.{arith}
 use Rattle.numbers.proofs.IntLaws.{back32}
-use Rattle.element_frames.specs.Frame.{frameOf}
-use Rattle.element_frames.proofs.PutLaws.{then, counted}
+use Rattle.element_frames.specs.Frame.{fieldBytes}
+use Rattle.element_frames.proofs.PutLaws.{then}
 use borrow.Author.Needs.{needs}
 use Rattle.frame_lines.proofs.kinds.put_pdf417.Statement.{statement}
 use Rattle.frame_lines.proofs.kinds.put_pdf417.Tie as tie
 
-put-head-requires : tie.Need-put-head-requires
-put-head-requires c κs = omega arith
-
 put-rotation-requires : tie.Need-put-rotation-requires
-put-rotation-requires c κs = omega arith
+put-rotation-requires c κs = search needs
 
 put-rows-requires : tie.Need-put-rows-requires
-put-rows-requires c κs = omega arith
+put-rows-requires c κs = search needs
 
 put-flag-requires : tie.Need-put-flag-requires
-put-flag-requires c κs = omega arith
+put-flag-requires c κs = search needs
 
 put-i32-requires : tie.Need-put-i32-requires
-put-i32-requires c κs = omega arith
-
-put-data-requires : tie.Need-put-data-requires
-put-data-requires c κs = omega arith
+put-i32-requires c κs = search needs
 
 same-length : tie.Need-same-length
 same-length c = search needs
 
 returns : tie.Need-returns
-unfolding frameOf
+unfolding fieldBytes
 returns c =
-    let d = c .before .before in
-    let m = d .before .before .before .before in
-    let f = m .before .before .before .before .before in
-    let r = f .before .before .before .before in
-    let o = r .before .before .before .before in
-    let k = o .before .before .before .before in
-    let e = k .before .before .before .before .before .before .before .args .e in
-    counted (omega arith)
-    (then (then (then (then (then (k .put-head .ensures) (o .put-rotation .ensures)) (r .put-rows .ensures)) (f .put-flag .ensures)) (rw (back32 (e .barcode .«module_width») (m .before .struct-told .given .1 .1 .1 .1 .1 .1 .0 .1)) at (m .put-i32 .ensures)))
-    (d .put-data .ensures))
+    let width = c .before .before in
+    let truncate = width .before .before .before .before .before in
+    let rows = truncate .before .before .before .before in
+    let turned = rows .before .before .before .before in
+    let b = turned .before .before .before .args .b in
+    then (turned .put-rotation .ensures)
+    (then (rows .put-rows .ensures)
+    (then (truncate .put-flag .ensures)
+    (rw (back32 (b .«module_width») (width .before .struct-told .given .1 .1 .1 .1 .1 .1 .0 .1)) at (width .put-i32 .ensures))))
 
 pub put-pdf417-spec : {M : Type 1} → statement M
 put-pdf417-spec =
     tie.close
     (tie.spec
-    put-head-requires
     put-rotation-requires
     put-rows-requires
     put-flag-requires
     put-i32-requires
-    put-data-requires
     same-length
     returns)

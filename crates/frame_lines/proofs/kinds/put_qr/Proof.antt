@@ -1,51 +1,33 @@
--- `frame_lines::kinds::put_qr` meets its contract: the runs, one after the other, are the frame.
+-- `frame_lines::kinds::put_qr` meets its contract.
 -- Assumes nothing.
-use native.Mathlib.Omega.{arith}
 use Rattle.numbers.proofs.IntLaws.{back32}
-use Rattle.element_frames.specs.Frame.{frameOf}
-use Rattle.element_frames.proofs.PutLaws.{then, counted}
+use Rattle.element_frames.specs.Frame.{fieldBytes}
+use Rattle.element_frames.proofs.PutLaws.{then}
 use borrow.Author.Needs.{needs}
 use Rattle.frame_lines.proofs.kinds.put_qr.Statement.{statement}
 use Rattle.frame_lines.proofs.kinds.put_qr.Tie as tie
 
-put-head-requires : tie.Need-put-head-requires
-put-head-requires c κs = omega arith
-
 put-i32-requires : tie.Need-put-i32-requires
-put-i32-requires c κs = omega arith
+put-i32-requires c κs = search needs
 
 level-requires : tie.Need-level-requires
 level-requires c κs = search needs
 
 put-byte-requires : tie.Need-put-byte-requires
-put-byte-requires c κs = omega arith
-
-put-data-requires : tie.Need-put-data-requires
-put-data-requires c κs = omega arith
+put-byte-requires c κs = search needs
 
 same-length : tie.Need-same-length
 same-length c = search needs
 
 returns : tie.Need-returns
-unfolding frameOf
+unfolding fieldBytes
 returns c =
-    let d = c .before .before in
-    let l = d .before .before .before .before in
-    let m = l .before .before .before .before .before in
-    let k = m .before .before .before .before .before in
-    let e = k .before .before .before .before .before .before .before .args .e in
-    counted (omega arith)
-    (then (then (then (k .put-head .ensures) (rw (back32 (e .barcode .magnification) (m .before .struct-told .given .0 .1)) at (m .put-i32 .ensures))) (rw (l .before .level .ensures) at (l .put-byte .ensures)))
-    (d .put-data .ensures))
+    let letter = c .before .before in
+    let magnification = letter .before .before .before .before .before in
+    let b = magnification .before .before .before .before .args .b in
+    then (rw (back32 (b .magnification) (magnification .before .struct-told .given .0 .1)) at (magnification .put-i32 .ensures))
+    (rw (letter .before .level .ensures) at (letter .put-byte .ensures))
 
 pub put-qr-spec : {M : Type 1} → statement M
 put-qr-spec =
-    tie.close
-    (tie.spec
-    put-head-requires
-    put-i32-requires
-    level-requires
-    put-byte-requires
-    put-data-requires
-    same-length
-    returns)
+    tie.close (tie.spec put-i32-requires level-requires put-byte-requires same-length returns)
