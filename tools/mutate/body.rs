@@ -262,12 +262,12 @@ fn brackets_around(tokens: &[Token]) -> Vec<Option<usize>> {
     around
 }
 
-/// `LabelPosition`, not `INPUT_MAX` nor `position`.
+/// `LabelPosition`, not `LONGEST` nor `position`.
 fn is_type_name(name: &str) -> bool {
     name.starts_with(|c: char| c.is_uppercase()) && !is_constant(name)
 }
 
-/// `INPUT_MAX`. A variant of one letter, as `H`, is none.
+/// `LONGEST`. A variant of one letter, as `H`, is none.
 pub fn is_constant(name: &str) -> bool {
     name.len() > 1 && name.starts_with(|c: char| c.is_uppercase()) && !name.contains(|c: char| c.is_lowercase())
 }

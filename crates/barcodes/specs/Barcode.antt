@@ -24,8 +24,8 @@ use Rattle.barcodes.specs.declared.barcode.Symbology.the-variants.{Code1
 use Rattle.barcodes.specs.declared.barcode.Symbology.the-variants.{UpcA, UpcE, Unlisted}
 use Rattle.parameters.specs.declared.position.Placed.{Placed}
 use Rattle.parameters.specs.declared.position.Placed.the-variants as placing
-use Rattle.parameters.specs.declared.reading.Reading.{Reading}
-use Rattle.parameters.specs.declared.reading.Reading.the-variants as reading
+use Rattle.parameters.specs.declared.reading.LineReading.{LineReading}
+use Rattle.parameters.specs.declared.reading.LineReading.the-variants as reading
 use Rattle.barcodes.specs.Ratio.{ratioOf}
 use Rattle.parameters.specs.Rotation.{rotationOf}
 use Rattle.parameters.specs.FieldValues.{sizeOr, pointOf, exactly}
@@ -90,7 +90,7 @@ barcodeFields s =
     }
 
 -- the elements: rotation, narrow bar, bar height, line, position and data; Code 128 with its mode
-unfoldable pub code128 : BarcodeMode → Barcode → Reading
+unfoldable pub code128 : BarcodeMode → Barcode → LineReading
 code128 m b =
     reading.Element
     (element.Barcode128
@@ -102,7 +102,7 @@ code128 m b =
     }))
 
 -- 2 of 5 and Code 39 with their check and the ratio
-unfoldable pub interleaved : Bool → Barcode → Reading
+unfoldable pub interleaved : Bool → Barcode → LineReading
 interleaved c b =
     reading.Element
     (element.Barcode2of5
@@ -115,7 +115,7 @@ interleaved c b =
       «data» = b .«data»;
     }))
 
-unfoldable pub code39 : Bool → Barcode → Reading
+unfoldable pub code39 : Bool → Barcode → LineReading
 code39 c b =
     reading.Element
     (element.Barcode39
@@ -128,7 +128,7 @@ code39 c b =
       «data» = b .«data»;
     }))
 
-unfoldable pub ean13 : Barcode → Reading
+unfoldable pub ean13 : Barcode → LineReading
 ean13 b =
     reading.Element
     (element.BarcodeEan13
@@ -139,7 +139,7 @@ ean13 b =
       «data» = b .«data»;
     }))
 
-unfoldable pub ean8 : Barcode → Reading
+unfoldable pub ean8 : Barcode → LineReading
 ean8 b =
     reading.Element
     (element.BarcodeEan8
@@ -150,7 +150,7 @@ ean8 b =
       «data» = b .«data»;
     }))
 
-unfoldable pub upcA : Barcode → Reading
+unfoldable pub upcA : Barcode → LineReading
 upcA b =
     reading.Element
     (element.BarcodeUca
@@ -161,7 +161,7 @@ upcA b =
       «data» = b .«data»;
     }))
 
-unfoldable pub upcE : Barcode → Reading
+unfoldable pub upcE : Barcode → LineReading
 upcE b =
     reading.Element
     (element.BarcodeUcpe
@@ -173,7 +173,7 @@ upcE b =
     }))
 
 -- the element of a type
-abbrev pub barcodeElement : Symbology → Barcode → Reading
+abbrev pub barcodeElement : Symbology → Barcode → LineReading
 barcodeElement (Code128 m) b = code128 m b
 barcodeElement (Interleaved c) b = interleaved c b
 barcodeElement (Code39 c) b = code39 c b
@@ -184,19 +184,19 @@ barcodeElement UpcE b = upcE b
 barcodeElement Unlisted b = reading.Refused refusal.BarcodeType
 
 -- at its position, or 13
-abbrev pub barcodePlaced : BarcodeFields → DataSpan → Placed → Reading
+abbrev pub barcodePlaced : BarcodeFields → DataSpan → Placed → LineReading
 barcodePlaced f d (placing.At p) =
     barcodeElement (f .symbology)
     (record { orientation = rotationOf (f .rotation); bars = f .bars; position = p; «data» = d })
 barcodePlaced f d placing.Outside = reading.Refused refusal.OutOfRange
 
 -- 7 where the type is not listed, then 13
-unfoldable pub barcodeAt : BarcodeFields → DataSpan → LabelPosition → Reading
+unfoldable pub barcodeAt : BarcodeFields → DataSpan → LabelPosition → LineReading
 barcodeAt f d r =
     cond (isListed (f .symbology)) (barcodePlaced f d (placed (f .at .x) (f .at .y) r))
     (reading.Refused refusal.BarcodeType)
 
 -- "number at least .. 8", or 2
-unfoldable pub barcodeReading : List ℕ → DataSpan → LabelPosition → Reading
+unfoldable pub barcodeReading : List ℕ → DataSpan → LabelPosition → LineReading
 barcodeReading s d r =
     cond (ltb (length (fields s)) 8) (reading.Refused refusal.BarcodeFields) (barcodeAt (barcodeFields s) d r)

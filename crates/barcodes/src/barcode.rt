@@ -35,7 +35,7 @@ use parameters::params::rest_from;
 use parameters::params::size_from;
 use parameters::position::Placed;
 use parameters::position::place;
-use parameters::reading::Reading;
+use parameters::reading::LineReading;
 use parameters::rotation::epl_rotation;
 
 // What the fourth field says.
@@ -168,14 +168,14 @@ pub struct Barcode {
 }
 
 // Code 128.
-pub(crate) fn code_128(mode: BarcodeMode, b: Barcode) -> Reading
+pub(crate) fn code_128(mode: BarcodeMode, b: Barcode) -> LineReading
     ensures { λ r. ⌜ r ≡ code128 mode b ⌝ }
 {
     let orientation = b.orientation;
     let bars = b.bars;
     let position = b.position;
     let data = b.data;
-    Reading::Element(LabelElement::Barcode128(Barcode128WithData {
+    LineReading::Element(LabelElement::Barcode128(Barcode128WithData {
         barcode: Barcode128 {
             orientation,
             height: bars.height,
@@ -189,14 +189,14 @@ pub(crate) fn code_128(mode: BarcodeMode, b: Barcode) -> Reading
 }
 
 // 2 of 5, with a check digit or without.
-pub(crate) fn interleaved(check: bool, b: Barcode) -> Reading
+pub(crate) fn interleaved(check: bool, b: Barcode) -> LineReading
     ensures { λ r. ⌜ r ≡ interleaved check b ⌝ }
 {
     let orientation = b.orientation;
     let bars = b.bars;
     let position = b.position;
     let data = b.data;
-    Reading::Element(LabelElement::Barcode2of5(Barcode2of5WithData {
+    LineReading::Element(LabelElement::Barcode2of5(Barcode2of5WithData {
         barcode: Barcode2of5 {
             orientation,
             height: bars.height,
@@ -211,14 +211,14 @@ pub(crate) fn interleaved(check: bool, b: Barcode) -> Reading
 }
 
 // Code 39, with a check digit or without.
-pub(crate) fn code_39(check: bool, b: Barcode) -> Reading
+pub(crate) fn code_39(check: bool, b: Barcode) -> LineReading
     ensures { λ r. ⌜ r ≡ code39 check b ⌝ }
 {
     let orientation = b.orientation;
     let bars = b.bars;
     let position = b.position;
     let data = b.data;
-    Reading::Element(LabelElement::Barcode39(Barcode39WithData {
+    LineReading::Element(LabelElement::Barcode39(Barcode39WithData {
         barcode: Barcode39 {
             orientation,
             height: bars.height,
@@ -233,14 +233,14 @@ pub(crate) fn code_39(check: bool, b: Barcode) -> Reading
 }
 
 // EAN-13.
-pub(crate) fn ean_13(b: Barcode) -> Reading
+pub(crate) fn ean_13(b: Barcode) -> LineReading
     ensures { λ r. ⌜ r ≡ ean13 b ⌝ }
 {
     let orientation = b.orientation;
     let bars = b.bars;
     let position = b.position;
     let data = b.data;
-    Reading::Element(LabelElement::BarcodeEan13(BarcodeEan13WithData {
+    LineReading::Element(LabelElement::BarcodeEan13(BarcodeEan13WithData {
         barcode: BarcodeEan13 {
             orientation,
             height: bars.height,
@@ -253,14 +253,14 @@ pub(crate) fn ean_13(b: Barcode) -> Reading
 }
 
 // EAN-8.
-pub(crate) fn ean_8(b: Barcode) -> Reading
+pub(crate) fn ean_8(b: Barcode) -> LineReading
     ensures { λ r. ⌜ r ≡ ean8 b ⌝ }
 {
     let orientation = b.orientation;
     let bars = b.bars;
     let position = b.position;
     let data = b.data;
-    Reading::Element(LabelElement::BarcodeEan8(BarcodeEan8WithData {
+    LineReading::Element(LabelElement::BarcodeEan8(BarcodeEan8WithData {
         barcode: BarcodeEan8 {
             orientation,
             height: bars.height,
@@ -273,14 +273,14 @@ pub(crate) fn ean_8(b: Barcode) -> Reading
 }
 
 // UPC-A.
-pub(crate) fn upc_a(b: Barcode) -> Reading
+pub(crate) fn upc_a(b: Barcode) -> LineReading
     ensures { λ r. ⌜ r ≡ upcA b ⌝ }
 {
     let orientation = b.orientation;
     let bars = b.bars;
     let position = b.position;
     let data = b.data;
-    Reading::Element(LabelElement::BarcodeUca(BarcodeUcaWithData {
+    LineReading::Element(LabelElement::BarcodeUca(BarcodeUcaWithData {
         barcode: BarcodeUca {
             orientation,
             height: bars.height,
@@ -293,14 +293,14 @@ pub(crate) fn upc_a(b: Barcode) -> Reading
 }
 
 // UPC-E.
-pub(crate) fn upc_e(b: Barcode) -> Reading
+pub(crate) fn upc_e(b: Barcode) -> LineReading
     ensures { λ r. ⌜ r ≡ upcE b ⌝ }
 {
     let orientation = b.orientation;
     let bars = b.bars;
     let position = b.position;
     let data = b.data;
-    Reading::Element(LabelElement::BarcodeUcpe(BarcodeUcpeWithData {
+    LineReading::Element(LabelElement::BarcodeUcpe(BarcodeUcpeWithData {
         barcode: BarcodeUcpe {
             orientation,
             height: bars.height,
@@ -313,7 +313,7 @@ pub(crate) fn upc_e(b: Barcode) -> Reading
 }
 
 // The bar code of a listed type.
-pub(crate) fn barcode_element(s: Symbology, b: Barcode) -> Reading
+pub(crate) fn barcode_element(s: Symbology, b: Barcode) -> LineReading
     ensures { λ r. ⌜ r ≡ barcodeElement s b ⌝ }
 {
     match s {
@@ -324,22 +324,22 @@ pub(crate) fn barcode_element(s: Symbology, b: Barcode) -> Reading
         Symbology::Ean8 => ean_8(b),
         Symbology::UpcA => upc_a(b),
         Symbology::UpcE => upc_e(b),
-        Symbology::Unlisted => Reading::Refused(Refusal::BarcodeType),
+        Symbology::Unlisted => LineReading::Refused(Refusal::BarcodeType),
     }
 }
 
 // The bar code at a reference: 7, then 13.
-pub(crate) fn barcode_at(f: BarcodeFields, span: DataSpan, reference: LabelPosition) -> Reading
+pub(crate) fn barcode_at(f: BarcodeFields, span: DataSpan, reference: LabelPosition) -> LineReading
     ensures { λ r. ⌜ r ≡ barcodeAt f span reference ⌝ }
 {
     let s = f.symbology;
     let at = f.at;
     let bars = f.bars;
     if !is_listed(s) {
-        return Reading::Refused(Refusal::BarcodeType);
+        return LineReading::Refused(Refusal::BarcodeType);
     }
     let Placed::At(position) = place(at.x, at.y, reference) else {
-        return Reading::Refused(Refusal::OutOfRange);
+        return LineReading::Refused(Refusal::OutOfRange);
     };
     let orientation = epl_rotation(f.rotation);
     barcode_element(
@@ -354,7 +354,7 @@ pub(crate) fn barcode_at(f: BarcodeFields, span: DataSpan, reference: LabelPosit
 }
 
 // A line's parameters and data, at a reference. The fields are counted only where nothing stands behind the seventh.
-pub fn parse_epl_barcode(params: &[u8], span: DataSpan, reference: LabelPosition) -> Reading
+pub fn parse_epl_barcode(params: &[u8], span: DataSpan, reference: LabelPosition) -> LineReading
     ensures { λ r. ⌜ r ≡ barcodeReading (now (params .entry)) span reference ⌝ }
 {
     let x = number_from(params, 0, 0);
@@ -366,7 +366,7 @@ pub fn parse_epl_barcode(params: &[u8], span: DataSpan, reference: LabelPosition
     let wide = number_from(t, narrow.next, 2);
     let height = size_from(t, wide.next, 10);
     if !reaches(height.next < t.len(), params, 8) {
-        return Reading::Refused(Refusal::BarcodeFields);
+        return LineReading::Refused(Refusal::BarcodeFields);
     }
     let symbology = symbology_upto(t, n);
     let line = is_exactly(rest_from(t, height.next), b'B');

@@ -1,4 +1,5 @@
--- Reading the parameters of `b` behind its type as one text is reading them field by field, as `parse_epl_2d_params` does.
+-- Reading the parameters of `b` behind its type as one text is reading them field by field, as `parse_epl_2d_params`
+-- does.
 -- Assumes nothing.
 use mathlib.Core.Path.{_≡_, refl, ap, _∙_}
 use mathlib.Core.Bool.{Bool, true, false, cond}

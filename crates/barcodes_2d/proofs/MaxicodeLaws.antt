@@ -1,5 +1,6 @@
--- Laws of MaxiCode's automatic mode. The header is ASCII, so it stands in the decoded bytes just where it stands in the raw ones, and what
--- stands before it is decoded by itself; then the turns of the loops, and the mode by cases. Assumes nothing.
+-- Laws of MaxiCode's automatic mode. The header is ASCII, so it stands in the decoded bytes just where it stands in the
+-- raw ones, and what stands before it is decoded by itself; then the turns of the loops, and the mode by cases. Assumes
+-- nothing.
 use mathlib.Core.Path.{_≡_, refl, sym, ap, _∙_}
 use mathlib.Core.Bool.{Bool, true, false, cond, _&&_, _||_, and-assoc, and-true, and-false, or-true, or-false}
 use mathlib.Core.List.{List, [], _∷_, _++_, flatten}

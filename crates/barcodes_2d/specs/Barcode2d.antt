@@ -29,8 +29,8 @@ use Rattle.barcodes_2d.specs.declared.barcode_2d.Symbology2d.the-variant
 use Rattle.barcodes_2d.specs.declared.barcode_2d.Symbology2d.the-variants.{Qr, Unlisted}
 use Rattle.barcodes_2d.specs.declared.options.Wanted.the-variants as wanted
 use Rattle.parameters.specs.declared.position.Placed.{Placed}
-use Rattle.parameters.specs.declared.reading.Reading.{Reading}
-use Rattle.parameters.specs.declared.reading.Reading.the-variants as reading
+use Rattle.parameters.specs.declared.reading.LineReading.{LineReading}
+use Rattle.parameters.specs.declared.reading.LineReading.the-variants as reading
 use Rattle.parameters.specs.Rotation.{rotationOf}
 use Rattle.barcodes_2d.specs.Maxicode.{autoMode}
 use Rattle.barcodes_2d.specs.Options.{optionsOf, lastOf, lastCount, lastNumber, lastClamped}
@@ -131,23 +131,23 @@ levelFirst (b ∷ v) =
 unfoldable pub levelOf : List ℕ → QrErrorCorrectionLevel
 levelOf s = levelFirst (lastOf wanted.Level (letter "e") (optionsOf s))
 
-unfoldable pub aztecReading : List ℕ → Placed → DataSpan → Reading
+unfoldable pub aztecReading : List ℕ → Placed → DataSpan → LineReading
 aztecReading s p d = yields p λ at. element.BarcodeAztec (record { barcode = aztecOf s; position = at; «data» = d })
 
-unfoldable pub datamatrixReading : List ℕ → Placed → DataSpan → Reading
+unfoldable pub datamatrixReading : List ℕ → Placed → DataSpan → LineReading
 datamatrixReading s p d =
     yields p λ at. element.BarcodeDatamatrix (record { barcode = datamatrixOf s; position = at; «data» = d })
 
 -- parameters s, data t
-unfoldable pub maxicodeReading : List ℕ → List ℕ → Placed → DataSpan → Reading
+unfoldable pub maxicodeReading : List ℕ → List ℕ → Placed → DataSpan → LineReading
 maxicodeReading s t p d =
     yields p λ at. element.Maxicode (record { code = record { mode = modeOf s t }; position = at; «data» = d })
 
-unfoldable pub pdf417Reading : List ℕ → Placed → DataSpan → Reading
+unfoldable pub pdf417Reading : List ℕ → Placed → DataSpan → LineReading
 pdf417Reading s p d = yields p λ at. element.BarcodePdf417 (record { barcode = pdf417Of s; position = at; «data» = d })
 
 -- "QR data of at most 9,999 decoded bytes", or 9
-unfoldable pub qrReading : List ℕ → List ℕ → Placed → DataSpan → Reading
+unfoldable pub qrReading : List ℕ → List ℕ → Placed → DataSpan → LineReading
 qrReading s t p d =
     cond (leb (length (decode t)) 9999)
     (yields p λ at.
@@ -155,7 +155,7 @@ qrReading s t p d =
     (reading.Refused refusal.QrData)
 
 -- parameters s, data t; 8 where the type is not listed
-abbrev pub barcode2dAt : Symbology2d → List ℕ → List ℕ → Placed → DataSpan → Reading
+abbrev pub barcode2dAt : Symbology2d → List ℕ → List ℕ → Placed → DataSpan → LineReading
 barcode2dAt Aztec s t p d = aztecReading s p d
 barcode2dAt Datamatrix s t p d = datamatrixReading s p d
 barcode2dAt Maxicode s t p d = maxicodeReading s t p d
@@ -164,7 +164,7 @@ barcode2dAt Qr s t p d = qrReading s t p d
 barcode2dAt Unlisted s t p d = reading.Refused refusal.Barcode2dType
 
 -- "x, y, type, parameters"; "number at least .. 3", or 3
-unfoldable pub barcode2dReading : List ℕ → List ℕ → DataSpan → LabelPosition → Reading
+unfoldable pub barcode2dReading : List ℕ → List ℕ → DataSpan → LabelPosition → LineReading
 barcode2dReading s t d r =
     cond (ltb (length (fields s)) 3) (reading.Refused refusal.Barcode2dFields)
     (barcode2dAt (symbologyOf (trim (field s 2))) (fieldsFrom 3 s) t

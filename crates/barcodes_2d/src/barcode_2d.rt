@@ -32,7 +32,7 @@ use parameters::params::point_from;
 use parameters::params::rest_from;
 use parameters::position::Placed;
 use parameters::position::place;
-use parameters::reading::Reading;
+use parameters::reading::LineReading;
 use parameters::rotation::epl_rotation;
 
 pub enum Symbology2d {
@@ -211,56 +211,56 @@ pub(crate) fn qr_options(s: &[u8]) -> BarcodeQr
 }
 
 // One function a type: its parameters, and where it stands.
-pub(crate) fn aztec(s: &[u8], at: Placed, span: DataSpan) -> Reading
+pub(crate) fn aztec(s: &[u8], at: Placed, span: DataSpan) -> LineReading
     ensures { λ r. ⌜ r ≡ aztecReading (now (s .entry)) at span ⌝ }
 {
     let Placed::At(position) = at else {
-        return Reading::Refused(Refusal::OutOfRange);
+        return LineReading::Refused(Refusal::OutOfRange);
     };
     let barcode = aztec_options(s);
-    Reading::Element(LabelElement::BarcodeAztec(BarcodeAztecWithData {
+    LineReading::Element(LabelElement::BarcodeAztec(BarcodeAztecWithData {
         barcode,
         position,
         data: span,
     }))
 }
 
-pub(crate) fn datamatrix(s: &[u8], at: Placed, span: DataSpan) -> Reading
+pub(crate) fn datamatrix(s: &[u8], at: Placed, span: DataSpan) -> LineReading
     ensures { λ r. ⌜ r ≡ datamatrixReading (now (s .entry)) at span ⌝ }
 {
     let Placed::At(position) = at else {
-        return Reading::Refused(Refusal::OutOfRange);
+        return LineReading::Refused(Refusal::OutOfRange);
     };
     let barcode = datamatrix_options(s);
-    Reading::Element(LabelElement::BarcodeDatamatrix(BarcodeDatamatrixWithData {
+    LineReading::Element(LabelElement::BarcodeDatamatrix(BarcodeDatamatrixWithData {
         barcode,
         position,
         data: span,
     }))
 }
 
-pub(crate) fn maxicode(s: &[u8], data: &[u8], at: Placed, span: DataSpan) -> Reading
+pub(crate) fn maxicode(s: &[u8], data: &[u8], at: Placed, span: DataSpan) -> LineReading
     ensures { λ r. ⌜ r ≡ maxicodeReading (now (s .entry)) (now («data» .entry)) at span ⌝ }
 {
     let Placed::At(position) = at else {
-        return Reading::Refused(Refusal::OutOfRange);
+        return LineReading::Refused(Refusal::OutOfRange);
     };
     let mode = maxicode_mode(s, data);
-    Reading::Element(LabelElement::Maxicode(MaxicodeWithData {
+    LineReading::Element(LabelElement::Maxicode(MaxicodeWithData {
         code: Maxicode { mode },
         position,
         data: span,
     }))
 }
 
-pub(crate) fn pdf417(s: &[u8], at: Placed, span: DataSpan) -> Reading
+pub(crate) fn pdf417(s: &[u8], at: Placed, span: DataSpan) -> LineReading
     ensures { λ r. ⌜ r ≡ pdf417Reading (now (s .entry)) at span ⌝ }
 {
     let Placed::At(position) = at else {
-        return Reading::Refused(Refusal::OutOfRange);
+        return LineReading::Refused(Refusal::OutOfRange);
     };
     let barcode = pdf417_options(s);
-    Reading::Element(LabelElement::BarcodePdf417(BarcodePdf417WithData {
+    LineReading::Element(LabelElement::BarcodePdf417(BarcodePdf417WithData {
         barcode,
         position,
         data: span,
@@ -268,19 +268,19 @@ pub(crate) fn pdf417(s: &[u8], at: Placed, span: DataSpan) -> Reading
 }
 
 // 9 where the decoded data is over its limit, then 13.
-pub(crate) fn qr(s: &[u8], data: &[u8], at: Placed, span: DataSpan) -> Reading
+pub(crate) fn qr(s: &[u8], data: &[u8], at: Placed, span: DataSpan) -> LineReading
     ensures { λ r. ⌜ r ≡ qrReading (now (s .entry)) (now («data» .entry)) at span ⌝ }
 {
     let count = decoded_len(data, BarcodeQr::DATA_MAX + 1);
     if BarcodeQr::DATA_MAX < count {
-        return Reading::Refused(Refusal::QrData);
+        return LineReading::Refused(Refusal::QrData);
     }
     let Placed::At(position) = at else {
-        return Reading::Refused(Refusal::OutOfRange);
+        return LineReading::Refused(Refusal::OutOfRange);
     };
     let barcode = qr_options(s);
     let error_correction = qr_level(s);
-    Reading::Element(LabelElement::BarcodeQr(BarcodeQrWithData {
+    LineReading::Element(LabelElement::BarcodeQr(BarcodeQrWithData {
         barcode,
         error_correction,
         position,
@@ -295,7 +295,7 @@ pub(crate) fn barcode_2d_at(
     data: &[u8],
     at: Placed,
     span: DataSpan,
-) -> Reading
+) -> LineReading
     ensures { λ r. ⌜ r ≡ barcode2dAt t (now (s .entry)) (now («data» .entry)) at span ⌝ }
 {
     match t {
@@ -304,12 +304,12 @@ pub(crate) fn barcode_2d_at(
         Symbology2d::Maxicode => maxicode(s, data, at, span),
         Symbology2d::Pdf417 => pdf417(s, at, span),
         Symbology2d::Qr => qr(s, data, at, span),
-        Symbology2d::Unlisted => Reading::Refused(Refusal::Barcode2dType),
+        Symbology2d::Unlisted => LineReading::Refused(Refusal::Barcode2dType),
     }
 }
 
 // The third field on: type and parameters.
-fn typed_2d(s: &[u8], data: &[u8], at: Placed, span: DataSpan) -> Reading
+fn typed_2d(s: &[u8], data: &[u8], at: Placed, span: DataSpan) -> LineReading
     ensures { λ r. ⌜ r ≡ barcode2dAt (symbologyOf (typeAt (now (s .entry)))) (after 44 (now (s .entry))) (now («data» .entry)) at span ⌝ }
 {
     let n = find(s, b',');
@@ -323,11 +323,11 @@ pub fn parse_epl_2d_barcode(
     data: &[u8],
     span: DataSpan,
     reference: LabelPosition,
-) -> Reading
+) -> LineReading
     ensures { λ r. ⌜ r ≡ barcode2dReading (now (params .entry)) (now («data» .entry)) span reference ⌝ }
 {
     if !has_fields(params, 3) {
-        return Reading::Refused(Refusal::Barcode2dFields);
+        return LineReading::Refused(Refusal::Barcode2dFields);
     }
     let p = point_from(params, 0);
     let point = p.point;

@@ -1,4 +1,5 @@
-// MaxiCode's automatic mode, on the decoded data: where the header of a structured message stands, and what comes before it.
+// MaxiCode's automatic mode, on the decoded data: where the header of a structured message stands, and what comes
+// before it.
 ghost use mathlib.Core.Path.{_≡_};
 ghost use Rattle.text.specs.Utf8.{decode};
 ghost use Rattle.barcodes_2d.specs.Maxicode.{headerAt, headerPlace, postal, autoMode};
@@ -57,7 +58,8 @@ pub(crate) fn is_postal(s: &[u8]) -> bool
     some
 }
 
-// The mode for data with no usable `m`: 2 where a postal code of digits stands before the header, 3 where another does, else 4.
+// The mode for data with no usable `m`: 2 where a postal code of digits stands before the header, 3 where another does,
+// else 4.
 pub(crate) fn auto_maxicode_mode(data: &[u8]) -> i32
     ensures { λ r. ⌜ r ≡ autoMode (decode (now («data» .entry))) ⌝ }
 {

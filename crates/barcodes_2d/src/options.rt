@@ -1,5 +1,6 @@
 // The parameters of `b` behind its type: a letter and its value, a run of digits or one letter, several in a field.
-// A comma is neither letter nor digit, so that the fields need no splitting. Each function looks at a byte a fixed number of times.
+// A comma is neither letter nor digit, so that the fields need no splitting. Each function looks at a byte a fixed
+// number of times.
 ghost use mathlib.Core.Path.{_≡_};
 ghost use Rattle.text.specs.Class.{isDigit};
 ghost use Rattle.text.specs.Blank.{front};

@@ -1,4 +1,5 @@
-// Where a byte stands in a slice, and the parts that it cuts the slice into. Fields are read one after the other: the rest is handed on.
+// Where a byte stands in a slice, and the parts that it cuts the slice into. Fields are read one after the other: the
+// rest is handed on.
 ghost use mathlib.Core.Path.{_≡_};
 ghost use Rattle.text.specs.Fields.{before, after, beforeLast, withoutTrailingCommas};
 use crate::scan::find;

@@ -1,4 +1,5 @@
-// Finding a byte, sixty-four at a time: a window is looked through with no early exit, so that the compiler can use wide registers.
+// Finding a byte, sixty-four at a time: a window is looked through with no early exit, so that the compiler can use
+// wide registers.
 ghost use mathlib.Core.Path.{_≡_};
 ghost use Prim.Native.Nat.{_+_, _≤_};
 ghost use lib.ListN.{length};
@@ -62,7 +63,8 @@ fn by_one(a: &[u8], from: usize, b: u8) -> usize
     i
 }
 
-// The first b among the first NEAR bytes, eight at a time, or NEAR: what stands near is known sooner than by a window. NEAR too where there are fewer bytes.
+// The first b among the first NEAR bytes, eight at a time, or NEAR: what stands near is known sooner than by a window.
+// NEAR too where there are fewer bytes.
 pub fn near(a: &[u8], b: u8) -> usize
     ensures { λ r. ⌜ Near (now (a .entry)) b r ⌝ }
 {

@@ -50,7 +50,8 @@ fn eight(a: &[u8], i: usize) -> u64
     four(a, i + 4) * 4294967296 + four(a, i)
 }
 
-// A mark for each of the eight bytes from i on that is b. A byte that differs from b has a bit left in x, and so a top bit in t: its own, or carried up.
+// A mark for each of the eight bytes from i on that is b. A byte that differs from b has a bit left in x, and so a top
+// bit in t: its own, or carried up.
 pub(crate) fn marks(a: &[u8], i: usize, b: u8) -> u64
     requires { ⌜ i + 8 ≤ length (now a) ⌝ }
     ensures { λ r. ⌜ r ≡ marksAt 8 (now (a .entry)) b i ⌝ }

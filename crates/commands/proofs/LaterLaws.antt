@@ -1,4 +1,5 @@
--- What a command says where more bytes stand before its line: the same, with the data of its element as many bytes later.
+-- What a command says where more bytes stand before its line: the same, with the data of its element as many bytes
+-- later.
 -- Assumes nothing.
 use mathlib.Core.Path.{_≡_, refl, ap, _∙_}
 use mathlib.Core.Bool.{Bool, true, false, cond}
@@ -18,8 +19,8 @@ use Rattle.elements.specs.declared.LineColor.{LineColor}
 use Rattle.elements.specs.Spans.{later, shifted}
 use Rattle.parameters.specs.declared.position.Placed.{Placed}
 use Rattle.parameters.specs.declared.position.Placed.the-variants as placing
-use Rattle.parameters.specs.declared.reading.Reading.{Reading}
-use Rattle.parameters.specs.declared.reading.Reading.the-variants as reading
+use Rattle.parameters.specs.declared.reading.LineReading.{LineReading}
+use Rattle.parameters.specs.declared.reading.LineReading.the-variants as reading
 use Rattle.numbers.specs.Number.{fieldOr}
 use Rattle.parameters.specs.FieldValues.{fieldsFrom}
 use Rattle.parameters.specs.Position.{placed, yields}
@@ -48,10 +49,10 @@ use Rattle.commands.specs.Line.{paramsOf, withData, spanOf, quotedReadin
 
 module _ (k : ℕ) where
   -- x is y with the data of its element k bytes later
-  abbrev Later : Reading → Reading → Type 0
+  abbrev Later : LineReading → LineReading → Type 0
   Later x y = x ≡ laterReading k y
 
-  later-cond : (q : Bool) (a b x y : Reading) → Later a b → Later x y → Later (cond q a x) (cond q b y)
+  later-cond : (q : Bool) (a b x y : LineReading) → Later a b → Later x y → Later (cond q a x) (cond q b y)
   later-cond true a b x y h i = h
   later-cond false a b x y h i = i
 

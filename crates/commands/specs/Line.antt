@@ -13,8 +13,8 @@ use Rattle.spelling.specs.declared.command.Command.the-variants.{Clear, Referen
 use Rattle.spelling.specs.declared.command.Command.the-variants.{Other}
 use Rattle.spelling.specs.declared.command.DataCommand.{DataCommand}
 use Rattle.spelling.specs.declared.command.DataCommand.the-variants.{Text, Barcode, Barcode2d}
-use Rattle.parameters.specs.declared.reading.Reading.{Reading}
-use Rattle.parameters.specs.declared.reading.Reading.the-variants as reading
+use Rattle.parameters.specs.declared.reading.LineReading.{LineReading}
+use Rattle.parameters.specs.declared.reading.LineReading.the-variants as reading
 use Rattle.barcodes.specs.Barcode.{barcodeReading}
 use Rattle.barcodes_2d.specs.Barcode2d.{barcode2dReading}
 use Rattle.draws.specs.Draw.{lineReading, diagonalReading, boxReading}
@@ -27,7 +27,7 @@ unfoldable pub paramsOf : List ℕ → List ℕ
 paramsOf t = withoutTrailingCommas (drop 1 (before 34 t))
 
 -- a command with its parameters s, its data t and the data's place
-abbrev pub withData : DataCommand → List ℕ → List ℕ → DataSpan → LabelPosition → Reading
+abbrev pub withData : DataCommand → List ℕ → List ℕ → DataSpan → LabelPosition → LineReading
 withData Text s t d r = textReading s d r
 withData Barcode s t d r = barcodeReading s d r
 withData Barcode2d s t d r = barcode2dReading s t d r
@@ -37,15 +37,15 @@ abbrev pub spanOf : ℕ → List ℕ → DataSpan
 spanOf lead t = record { start = lead + indexOf 34 t + 1; len = length (quoted t) }
 
 -- "Fewer than two quotes, or no data: nothing is read"
-unfoldable pub quotedReading : DataCommand → ℕ → List ℕ → LabelPosition → Reading
+unfoldable pub quotedReading : DataCommand → ℕ → List ℕ → LabelPosition → LineReading
 quotedReading c lead t r =
-    cond (eqb (length (quoted t)) 0) reading.Nothing (withData c (paramsOf t) (quoted t) (spanOf lead t) r)
+    cond (eqb (length (quoted t)) 0) reading.Passed (withData c (paramsOf t) (quoted t) (spanOf lead t) r)
 
 -- "`R` and `N` set the reference": what a line says that sets it to p
-abbrev pub setTo : LabelPosition → Reading
+abbrev pub setTo : LabelPosition → LineReading
 setTo p = reading.Reference (p .x) (p .y)
 
-abbrev pub commandReading : Command → ℕ → List ℕ → LabelPosition → Reading
+abbrev pub commandReading : Command → ℕ → List ℕ → LabelPosition → LineReading
 commandReading Clear lead t r = reading.Clear
 commandReading Reference lead t r = setTo (referenceOf (drop 1 t) r)
 commandReading (Data c) lead t r = quotedReading c lead t r
@@ -53,12 +53,12 @@ commandReading (Line c) lead t r = lineReading (drop 2 t) c r
 commandReading Diagonal lead t r = diagonalReading (drop 2 t) r
 commandReading Box lead t r = boxReading (drop 1 t) r
 commandReading Print lead t r = reading.Print
-commandReading Other lead t r = reading.Nothing
+commandReading Other lead t r = reading.Passed
 
 -- the bytes of Unicode blanks that a line begins with
 abbrev pub leadOf : List ℕ → ℕ
 leadOf line = length line - length (trimStart line)
 
 -- a line, "After its Unicode blanks .. are taken off both ends"; data is counted from the line's first byte
-unfoldable pub readLine : List ℕ → LabelPosition → Reading
+unfoldable pub readLine : List ℕ → LabelPosition → LineReading
 readLine line r = commandReading (commandOf (trim line)) (leadOf line) (trim line) r

@@ -18,7 +18,7 @@ use numbers::blank::trim_end;
 use numbers::blank::trim_start;
 use parameters::params::tail;
 use parameters::params::tail_two;
-use parameters::reading::Reading;
+use parameters::reading::LineReading;
 use spelling::command::Command;
 use spelling::command::DataCommand;
 use spelling::command::command_of;
@@ -32,7 +32,7 @@ fn with_data(
     data: &[u8],
     span: DataSpan,
     reference: LabelPosition,
-) -> Reading
+) -> LineReading
     ensures { λ r. ⌜ r ≡ withData c (now (params .entry)) (now («data» .entry)) span reference ⌝ }
 {
     match c {
@@ -42,20 +42,21 @@ fn with_data(
     }
 }
 
-// `A`, `B`, `b`: fewer than two quotes, or no data, and nothing is read. The line t stands lead bytes behind the place that data is counted from.
-fn read_quoted(c: DataCommand, t: &[u8], lead: usize, reference: LabelPosition) -> Reading
+// `A`, `B`, `b`: fewer than two quotes, or no data, and nothing is read. The line t stands lead bytes behind the place
+// that data is counted from.
+fn read_quoted(c: DataCommand, t: &[u8], lead: usize, reference: LabelPosition) -> LineReading
     requires { ⌜ lead + length (now t) < 18446744073709551616 ⌝ }
     ensures { λ r. ⌜ r ≡ quotedReading c lead (now (t .entry)) reference ⌝ }
 {
     // The first quote: what stands before it are the parameters, and the data follows it.
     let q = find(t, b'"');
     if t.len() - q < 2 {
-        return Reading::Nothing;
+        return LineReading::Passed;
     }
     let m = q + 1;
     let data = before_last(&t[m..], b'"');
     if data.len() == 0 {
-        return Reading::Nothing;
+        return LineReading::Passed;
     }
     let span = DataSpan {
         start: lead + m,
@@ -66,31 +67,31 @@ fn read_quoted(c: DataCommand, t: &[u8], lead: usize, reference: LabelPosition) 
 }
 
 // What a line says that sets the reference to p.
-fn set_to(p: LabelPosition) -> Reading
+fn set_to(p: LabelPosition) -> LineReading
     ensures { λ r. ⌜ r ≡ setTo p ⌝ }
 {
-    Reading::Reference(p.x, p.y)
+    LineReading::Reference(p.x, p.y)
 }
 
 // A command of the line t, whose blanks are off.
-fn read_command(c: Command, t: &[u8], lead: usize, reference: LabelPosition) -> Reading
+fn read_command(c: Command, t: &[u8], lead: usize, reference: LabelPosition) -> LineReading
     requires { ⌜ lead + length (now t) < 18446744073709551616 ⌝ }
     ensures { λ r. ⌜ r ≡ commandReading c lead (now (t .entry)) reference ⌝ }
 {
     match c {
-        Command::Clear => Reading::Clear,
+        Command::Clear => LineReading::Clear,
         Command::Reference => set_to(parse_epl_reference(tail(t), reference)),
         Command::Data(d) => read_quoted(d, t, lead, reference),
         Command::Line(line_color) => parse_epl_line(tail_two(t), line_color, reference),
         Command::Diagonal => parse_epl_diagonal(tail_two(t), reference),
         Command::Box => parse_epl_box(tail(t), reference),
-        Command::Print => Reading::Print,
-        Command::Other => Reading::Nothing,
+        Command::Print => LineReading::Print,
+        Command::Other => LineReading::Passed,
     }
 }
 
 // What the line that stands at `at` says at a reference, blanks at its ends included.
-pub fn read_line(line: &[u8], at: usize, reference: LabelPosition) -> Reading
+pub fn read_line(line: &[u8], at: usize, reference: LabelPosition) -> LineReading
     requires { ⌜ at + length (now line) < 18446744073709551616 ⌝ }
     ensures { λ r. ⌜ r ≡ laterReading at (readLine (now (line .entry)) reference) ⌝ }
 {

@@ -8,7 +8,7 @@ use Rattle.text.specs.Utf8.{decode}
 use Rattle.text.proofs.Utf8Laws.{length-decode-le}
 use Rattle.elements.specs.declared.DataSpan.{DataSpan}
 use Rattle.element_frames.specs.Frame.{part}
-use Rattle.whole.specs.Step.{longest}
+use Rattle.elements.specs.Given.{longest}
 
 -- p is the data, and n its length as it was measured
 pub measured : (s : List ℕ) (d : DataSpan) (p : List ℕ) (n : ℕ) → length s ≤ longest → p ≡ part s d → n ≡ min 50331648 (length (decode p)) → n ≡ length (decode (part s d))

@@ -1,11 +1,11 @@
--- What is due to a host that asks for decoded data (01, "Grammar": "Data is decoded as `from_utf8_lossy` does"; "Who causes which number").
+-- What is due to a host that asks for decoded data (01, "Grammar": "Data is decoded as `from_utf8_lossy` does"; "Who
+-- causes which number").
 use mathlib.Core.List.{List}
 use Prim.Native.Nat.{ℕ}
 use Rattle.text.specs.Utf8.{decode}
 use Rattle.elements.specs.declared.DataSpan.{DataSpan}
 use Rattle.element_frames.specs.Frame.{part}
-use Rattle.whole.specs.Given.{Due, text, within}
-use Rattle.whole.specs.Step.{longest}
+use Rattle.elements.specs.Given.{Due, text, within, longest}
 
 -- the data at d of the input s, as far as s goes
 abbrev pub dueOf : List ℕ → DataSpan → Due

@@ -1,3 +1,2 @@
-// The bytes of decoded data, into a buffer that the host lends; and the flat answer of a call that fills one.
+// The bytes of decoded data, into a buffer that the host lends.
 pub mod data;
-pub mod written;

@@ -10,7 +10,7 @@ use Rattle.elements.specs.declared.LabelElement.the-variants.{GraphicBox, Diago
 use Rattle.elements.specs.declared.LabelPosition.{LabelPosition}
 use Rattle.elements.specs.declared.LineColor.the-variants.{Black}
 use Rattle.elements.specs.declared.refusal.Refusal.the-variants.{OutOfRange}
-use Rattle.parameters.specs.declared.reading.Reading.the-variants.{Element, Refused}
+use Rattle.parameters.specs.declared.reading.LineReading.the-variants.{Element, Refused}
 use Rattle.parameters.specs.FieldValues.{sizeOr, pointOf}
 use Rattle.parameters.specs.Position.{placed}
 use Rattle.draws.specs.Draw.{lineFields, lineElement, lineReading, cornersAt, drawnAt, diagonalReading, boxReading}

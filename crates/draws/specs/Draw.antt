@@ -19,8 +19,8 @@ use Rattle.draws.specs.declared.draw.Cornered.the-variants as cornered
 use Rattle.draws.specs.declared.draw.LineFields.{LineFields}
 use Rattle.parameters.specs.declared.position.Placed.{Placed}
 use Rattle.parameters.specs.declared.position.Placed.the-variants as placing
-use Rattle.parameters.specs.declared.reading.Reading.{Reading}
-use Rattle.parameters.specs.declared.reading.Reading.the-variants as reading
+use Rattle.parameters.specs.declared.reading.LineReading.{LineReading}
+use Rattle.parameters.specs.declared.reading.LineReading.the-variants as reading
 use Rattle.parameters.specs.FieldValues.{sizeOr, pointOf}
 use Rattle.parameters.specs.Position.{ifFits, placed, yields}
 
@@ -34,7 +34,7 @@ lineFields s =
     }
 
 -- "thickness is the smaller of the two"
-unfoldable pub lineElement : LineFields → LineColor → LabelPosition → Reading
+unfoldable pub lineElement : LineFields → LineColor → LabelPosition → LineReading
 lineElement f c r =
     yields (placed (f .at .x) (f .at .y) r) λ p.
     element.GraphicBox
@@ -47,7 +47,7 @@ lineElement f c r =
     })
 
 -- "at least 4 fields", or 4
-unfoldable pub lineReading : List ℕ → LineColor → LabelPosition → Reading
+unfoldable pub lineReading : List ℕ → LineColor → LabelPosition → LineReading
 lineReading s c r =
     cond (ltb (length (fields s)) 4) (reading.Refused refusal.LineFields) (lineElement (lineFields s) c r)
 
@@ -93,7 +93,7 @@ drawnAt c r =
     drawnBy width height (direction dx dy) (placed (minZ x1 x2) (minZ y1 y2) r)
 
 -- `LS`
-abbrev pub diagonalOf : ℤ → Cornered → Reading
+abbrev pub diagonalOf : ℤ → Cornered → LineReading
 diagonalOf t (cornered.At d) =
     reading.Element
     (element.DiagonalLine
@@ -107,13 +107,13 @@ diagonalOf t (cornered.At d) =
 diagonalOf t cornered.Outside = reading.Refused refusal.OutOfRange
 
 -- `LS`: "at least 5", or 5
-unfoldable pub diagonalReading : List ℕ → LabelPosition → Reading
+unfoldable pub diagonalReading : List ℕ → LabelPosition → LineReading
 diagonalReading s r =
     cond (ltb (length (fields s)) 5) (reading.Refused refusal.DiagonalFields)
     (diagonalOf (cornersAt s .thickness) (drawnAt (cornersAt s) r))
 
 -- `X`
-abbrev pub boxOf : ℤ → Cornered → Reading
+abbrev pub boxOf : ℤ → Cornered → LineReading
 boxOf t (cornered.At d) =
     reading.Element
     (element.GraphicBox
@@ -127,7 +127,7 @@ boxOf t (cornered.At d) =
 boxOf t cornered.Outside = reading.Refused refusal.OutOfRange
 
 -- `X`: "at least 5", or 6
-unfoldable pub boxReading : List ℕ → LabelPosition → Reading
+unfoldable pub boxReading : List ℕ → LabelPosition → LineReading
 boxReading s r =
     cond (ltb (length (fields s)) 5) (reading.Refused refusal.BoxFields)
     (boxOf (cornersAt s .thickness) (drawnAt (cornersAt s) r))

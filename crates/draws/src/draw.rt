@@ -17,7 +17,7 @@ use parameters::params::reaches;
 use parameters::params::size_from;
 use parameters::position::Placed;
 use parameters::position::place;
-use parameters::reading::Reading;
+use parameters::reading::LineReading;
 
 pub struct LineFields {
     pub at: LabelPosition,
@@ -30,14 +30,14 @@ pub(crate) fn line_element(
     f: LineFields,
     line_color: LineColor,
     reference: LabelPosition,
-) -> Reading
+) -> LineReading
     ensures { λ r. ⌜ r ≡ lineElement f «line_color» reference ⌝ }
 {
     let at = f.at;
     let Placed::At(position) = place(at.x, at.y, reference) else {
-        return Reading::Refused(Refusal::OutOfRange);
+        return LineReading::Refused(Refusal::OutOfRange);
     };
-    Reading::Element(LabelElement::GraphicBox(GraphicBox {
+    LineReading::Element(LabelElement::GraphicBox(GraphicBox {
         position,
         width: f.width,
         height: f.height,
@@ -47,14 +47,14 @@ pub(crate) fn line_element(
 }
 
 // `LO`, `LW`: the parameters after the two letters, at a reference.
-pub fn parse_epl_line(params: &[u8], line_color: LineColor, reference: LabelPosition) -> Reading
+pub fn parse_epl_line(params: &[u8], line_color: LineColor, reference: LabelPosition) -> LineReading
     ensures { λ r. ⌜ r ≡ lineReading (now (params .entry)) «line_color» reference ⌝ }
 {
     let x = number_from(params, 0, 0);
     let y = number_from(params, x.next, 0);
     let width = size_from(params, y.next, 1);
     if !reaches(width.next < params.len(), params, 4) {
-        return Reading::Refused(Refusal::LineFields);
+        return LineReading::Refused(Refusal::LineFields);
     }
     let height = size_from(params, width.next, 1);
     let at = LabelPosition {
@@ -175,7 +175,8 @@ pub(crate) fn drawn_at(c: Corners, reference: LabelPosition) -> Cornered
     })
 }
 
-// The differences along both axes are both positive, both negative or both zero: ax and ay say that they rise, bx and by that they fall.
+// The differences along both axes are both positive, both negative or both zero: ax and ay say that they rise, bx and
+// by that they fall.
 pub(crate) fn same_way(ax: bool, bx: bool, ay: bool, by: bool) -> bool
     ensures { λ r. ⌜ r ≡ sameWay ax bx ay by ⌝ }
 {
@@ -183,25 +184,25 @@ pub(crate) fn same_way(ax: bool, bx: bool, ay: bool, by: bool) -> bool
 }
 
 // `LS`: the parameters after the two letters, at a reference.
-pub fn parse_epl_diagonal(params: &[u8], reference: LabelPosition) -> Reading
+pub fn parse_epl_diagonal(params: &[u8], reference: LabelPosition) -> LineReading
     ensures { λ r. ⌜ r ≡ diagonalReading (now (params .entry)) reference ⌝ }
 {
     let read = read_corners(params);
     if !reaches(read.seen, params, 5) {
-        return Reading::Refused(Refusal::DiagonalFields);
+        return LineReading::Refused(Refusal::DiagonalFields);
     }
     let c = read.corners;
     diagonal(c.thickness, drawn_at(c, reference))
 }
 
-fn diagonal(thickness: i32, d: Cornered) -> Reading
+fn diagonal(thickness: i32, d: Cornered) -> LineReading
     ensures { λ r. ⌜ r ≡ diagonalOf thickness d ⌝ }
 {
     let Cornered::At(at) = d else {
-        return Reading::Refused(Refusal::OutOfRange);
+        return LineReading::Refused(Refusal::OutOfRange);
     };
     let position = at.position;
-    Reading::Element(LabelElement::DiagonalLine(GraphicDiagonalLine {
+    LineReading::Element(LabelElement::DiagonalLine(GraphicDiagonalLine {
         position,
         width: at.width,
         height: at.height,
@@ -211,25 +212,25 @@ fn diagonal(thickness: i32, d: Cornered) -> Reading
 }
 
 // `X`: the parameters after the letter, at a reference.
-pub fn parse_epl_box(params: &[u8], reference: LabelPosition) -> Reading
+pub fn parse_epl_box(params: &[u8], reference: LabelPosition) -> LineReading
     ensures { λ r. ⌜ r ≡ boxReading (now (params .entry)) reference ⌝ }
 {
     let read = read_corners(params);
     if !reaches(read.seen, params, 5) {
-        return Reading::Refused(Refusal::BoxFields);
+        return LineReading::Refused(Refusal::BoxFields);
     }
     let c = read.corners;
     boxed(c.thickness, drawn_at(c, reference))
 }
 
-fn boxed(thickness: i32, d: Cornered) -> Reading
+fn boxed(thickness: i32, d: Cornered) -> LineReading
     ensures { λ r. ⌜ r ≡ boxOf thickness d ⌝ }
 {
     let Cornered::At(at) = d else {
-        return Reading::Refused(Refusal::OutOfRange);
+        return LineReading::Refused(Refusal::OutOfRange);
     };
     let position = at.position;
-    Reading::Element(LabelElement::GraphicBox(GraphicBox {
+    LineReading::Element(LabelElement::GraphicBox(GraphicBox {
         position,
         width: at.width,
         height: at.height,

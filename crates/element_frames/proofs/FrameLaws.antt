@@ -1,24 +1,23 @@
 -- Laws of frames: their length, and that they depend on their data alone.
 -- Assumes nothing.
 use mathlib.Core.Path.{_≡_, refl, sym, ap, _∙_}
-use mathlib.Core.List.{List, [], _∷_, _++_}
+use mathlib.Core.List.{List, [], _++_}
 use Prim.Native.Nat.{ℕ, _+_, _*_, _≤_}
 use native.Mathlib.Omega.{arith}
 use lib.ListN.{length, length-append}
 use Rattle.text.specs.Utf8.{decode}
 use Rattle.text.proofs.Utf8Laws.{length-decode-le}
-use Rattle.elements.specs.declared.DataSpan.{DataSpan}
 use Rattle.elements.specs.declared.LabelElement.{LabelElement}
 use Rattle.elements.specs.declared.LabelPosition.{LabelPosition}
 use Rattle.elements.specs.declared.plain.Data.{Data}
-use Rattle.elements.specs.declared.plain.Data.the-variants.{Nothing, Payload, Decoded}
+use Rattle.elements.specs.declared.plain.Data.the-variants.{NoData, Payload, Decoded}
 use Rattle.elements.specs.declared.plain.Fields.{Fields}
 use Rattle.elements.specs.declared.plain.Fields.the-variants.{Text, Box, Diagonal, Graphic, Code128, Bars, Ratio, Pdf417, Aztec, Datamatrix, Qr, Maxicode}
 use Rattle.elements.specs.declared.plain.Plain.{Plain}
 use Rattle.elements.specs.Plain.{plainOf}
 use Rattle.elements.specs.Spans.{later, shifted, spansIn, spans, AllIn, In}
 use Rattle.elements.proofs.PlainLaws.{onData, plain-on-span}
-use Rattle.element_frames.specs.Frame.{be32, sized, part, head, extentBytes, barBytes, rowBytes, fieldBytes, dataBytes, plainFrame, frameOf, lens, dataLen}
+use Rattle.element_frames.specs.Frame.{be32, part, head, extentBytes, barBytes, rowBytes, fieldBytes, dataBytes, plainFrame, frameOf, lens, dataLen}
 use Rattle.element_frames.specs.Put.{PutHex}
 use Rattle.element_frames.proofs.PutLaws.{whole, retold}
 use Rattle.element_frames.proofs.PartLaws.{part-le, part-in, decode-part-le, part-local}
@@ -65,13 +64,13 @@ module _ {f g : Fields} (h : f ≡ g) where
 
 -- ---- data
 abbrev pub dataSize : List ℕ → Data → ℕ
-dataSize s Nothing = 0
+dataSize s NoData = 0
 dataSize s (Payload d) = 8 + length (part s d)
 dataSize s (Decoded d) = 4 + length (decode (part s d))
 
 length-data : (s : List ℕ) (d : Data) → length (dataBytes s d) ≡ dataSize s d
 unfolding be32
-length-data s Nothing = refl
+length-data s NoData = refl
 length-data s (Payload d) = omega arith
 length-data s (Decoded d) = omega arith
 
@@ -85,19 +84,19 @@ module _ (s : List ℕ) {d x : Data} (h : d ≡ x) where
   data-told p = whole (retold (ap (dataBytes s) (sym h)) p)
 
 data-le : (s : List ℕ) (d : Data) → length (dataBytes s d) ≤ 8 + 3 * lens (spansIn d)
-data-le s Nothing = omega arith
+data-le s NoData = omega arith
 data-le s (Payload d) = omega (arith, length-data s (Payload d), part-le s d)
 data-le s (Decoded d) = omega (arith, length-data s (Decoded d), decode-part-le s d)
 
 data-in : (s : List ℕ) (d : Data) → length (dataBytes s d) ≤ 8 + 3 * length s
-data-in s Nothing = omega arith
+data-in s NoData = omega arith
 data-in s (Payload d) = omega (arith, length-data s (Payload d), part-in s d)
 data-in s (Decoded d) = omega (arith, length-data s (Decoded d), length-decode-le (part s d), part-in s d)
 
 -- bytes before and after x change nothing of data that lies in x
 data-local : (pre x post : List ℕ) (d : Data) → AllIn (length x) (spansIn d)
     → dataBytes (pre ++ (x ++ post)) (onData (later (length pre)) d) ≡ dataBytes x d
-data-local pre x post Nothing h = refl
+data-local pre x post NoData h = refl
 data-local pre x post (Payload d) h = rw (part-local pre x post d (h .0))
 data-local pre x post (Decoded d) h = rw (part-local pre x post d (h .0))
 
@@ -145,7 +144,7 @@ frame-plain s e h =
     omega (arith, length-frame s e, f .0, f .1, none (plainOf e .«data») h)
   where
     none : (d : Data) → spansIn d ≡ [] → length (dataBytes s d) ≡ 0
-    none Nothing h = refl
+    none NoData h = refl
     none (Payload d) h = absurd (let z : _≡_ {A = ℕ} 0 1 = cc in omega arith)
     none (Decoded d) h = absurd (let z : _≡_ {A = ℕ} 0 1 = cc in omega arith)
 

@@ -4,10 +4,8 @@ use mathlib.Core.Path.{_≡_, refl, ap}
 use mathlib.Core.List.{List, [], _∷_, _++_}
 use Prim.Native.Nat.{ℕ, _+_, _*_, _/_, _%_}
 use native.Mathlib.Omega.{arith}
-use lib.IntN.{ℤ}
-use lib.Ieee.{Float}
 use lib.ListN.{length, length-append}
-use Rattle.element_frames.specs.Frame.{be32, number, be64, float}
+use Rattle.element_frames.specs.Frame.{be32}
 use Rattle.element_frames.specs.Hex.{digit, hexes, lineOf}
 
 pub hexes-append : (xs ys : List ℕ) → hexes (xs ++ ys) ≡ hexes xs ++ hexes ys
@@ -24,15 +22,3 @@ length-line f = let h = length-hexes f in simp length-append (omega arith)
 pub length-be32 : (v : ℕ) → length (be32 v) ≡ 4
 unfolding be32
 length-be32 v = refl
-
-pub length-number : (z : ℤ) → length (number z) ≡ 4
-unfolding be32
-length-number z = refl
-
-pub length-be64 : (v : ℕ) → length (be64 v) ≡ 8
-unfolding be32
-length-be64 v = refl
-
-pub length-float : (x : Float) → length (float x) ≡ 8
-unfolding be32
-length-float x = refl

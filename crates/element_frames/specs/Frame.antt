@@ -22,7 +22,7 @@ use Rattle.elements.specs.declared.LineColor.{LineColor}
 use Rattle.elements.specs.declared.LineColor.the-variants.{Black, White}
 use Rattle.elements.specs.declared.plain.Bars as bars
 use Rattle.elements.specs.declared.plain.Data.{Data}
-use Rattle.elements.specs.declared.plain.Data.the-variants.{Nothing, Payload, Decoded}
+use Rattle.elements.specs.declared.plain.Data.the-variants.{NoData, Payload, Decoded}
 use Rattle.elements.specs.declared.plain.Extent.{Extent}
 use Rattle.elements.specs.declared.plain.Fields.{Fields}
 use Rattle.elements.specs.declared.plain.Fields.the-variants.{Text, Box, Diagonal, Graphic, Code128, Bars, Ratio}
@@ -108,7 +108,8 @@ rowBytes b = number (b .«row_height») ++ number (b .security) ++ number (b .co
 unfoldable pub fieldBytes : Fields → List ℕ
 -- "01 text: rotation flag (0 to 3), reverse flag, height and width f64, data"
 fieldBytes (Text reverse f) = rotation (f .rotation) ∷ flag reverse ∷ float (f .height) ++ float (f .width)
--- "02 box: width, height, thickness, colour flag (0 black, 1 white); 03 diagonal: width, height, thickness, direction flag"
+-- "02 box: width, height, thickness, colour flag (0 black, 1 white); 03 diagonal: width, height, thickness, direction
+-- flag"
 fieldBytes (Box x c) = extentBytes x ++ (colour c ∷ [])
 fieldBytes (Diagonal x down) = extentBytes x ++ (flag down ∷ [])
 -- "04 graphic: row bytes, total, data (the payload, not decoded)"
@@ -130,7 +131,7 @@ fieldBytes (Maxicode c) = number (c .mode)
 
 -- the data, with the total before a payload, which is not decoded
 abbrev pub dataBytes : List ℕ → Data → List ℕ
-dataBytes s Nothing = []
+dataBytes s NoData = []
 dataBytes s (Payload d) = be32 (length (part s d)) ++ sized (part s d)
 dataBytes s (Decoded d) = decoded s d
 

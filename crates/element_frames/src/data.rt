@@ -52,7 +52,7 @@ pub fn put_data(input: &[u8], out: &mut [u8], at: usize, d: Data) -> usize
         (length (dataBytes (now (input .entry)) d)) r ⌝ }
 {
     match d {
-        Data::Nothing => at,
+        Data::NoData => at,
         Data::Payload(span) => put_payload(input, out, at, span),
         Data::Decoded(span) => put_decoded_data(input, out, at, span),
     }
@@ -80,7 +80,7 @@ pub fn with_data(fixed: usize, input: &[u8], d: Data) -> usize
     ensures { λ r. ⌜ r ≡ min 4294967295 (fixed + length (dataBytes (now (input .entry)) d)) ⌝ }
 {
     match d {
-        Data::Nothing => fixed,
+        Data::NoData => fixed,
         Data::Payload(span) => with_payload(fixed + 8, input, span),
         Data::Decoded(span) => with_decoded(fixed + 4, input, span),
     }

@@ -1,10 +1,10 @@
 -- Laws of the plain form: where an element's data is moved, its plain form is the same but for the data.
 -- Assumes nothing.
 use mathlib.Core.Path.{_≡_, refl, ap, _∙_}
-use mathlib.Core.List.{List, map}
+use mathlib.Core.List.{map}
 use Prim.Native.Nat.{ℕ}
 use Rattle.elements.specs.declared.plain.Data.{Data}
-use Rattle.elements.specs.declared.plain.Data.the-variants.{Nothing, Payload, Decoded}
+use Rattle.elements.specs.declared.plain.Data.the-variants.{NoData, Payload, Decoded}
 use Rattle.elements.specs.declared.plain.Plain.{Plain}
 use Rattle.elements.specs.declared.DataSpan.{DataSpan}
 use Rattle.elements.specs.declared.LabelElement.{LabelElement}
@@ -13,7 +13,7 @@ use Rattle.elements.specs.Plain.{plain, plainOf}
 use Rattle.elements.specs.Spans.{later, onSpan, shifted, spansIn, spans}
 
 abbrev pub onData : (DataSpan → DataSpan) → Data → Data
-onData f Nothing = Nothing
+onData f NoData = NoData
 onData f (Payload d) = Payload (f d)
 onData f (Decoded d) = Decoded (f d)
 
@@ -39,7 +39,7 @@ plain-on-span f (Maxicode e) = refl
 plain-on-span f (BarcodeUcpe e) = refl
 
 spans-on-data : (f : DataSpan → DataSpan) (d : Data) → spansIn (onData f d) ≡ map f (spansIn d)
-spans-on-data f Nothing = refl
+spans-on-data f NoData = refl
 spans-on-data f (Payload d) = refl
 spans-on-data f (Decoded d) = refl
 

@@ -6,3 +6,5 @@ pub mod Refusals
 pub mod Spans
 -- 01, "For demand 3": the fresh state
 pub mod Walk
+-- 01, "Who causes which number": what a call that fills a lent buffer gives back
+pub mod Given

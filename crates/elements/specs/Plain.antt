@@ -4,7 +4,7 @@ use Prim.Native.Nat.{ℕ}
 use lib.IntN.{ℤ}
 use Rattle.elements.specs.declared.plain.Bars.{Bars}
 use Rattle.elements.specs.declared.plain.Data.{Data}
-use Rattle.elements.specs.declared.plain.Data.the-variants.{Nothing, Payload, Decoded}
+use Rattle.elements.specs.declared.plain.Data.the-variants.{NoData, Payload, Decoded}
 use Rattle.elements.specs.declared.plain.Extent.{Extent}
 use Rattle.elements.specs.declared.FieldOrientation.{FieldOrientation}
 use Rattle.elements.specs.declared.plain.Fields.{Fields}
@@ -33,21 +33,24 @@ bars o narrow height line = record { orientation = o; narrow = narrow; height = 
 abbrev pub plainOf : LabelElement → Plain
 plainOf (Text e) = plain 0x01 (e .position) (Decoded (e .text)) (fields.Text (e .«reverse_print») (e .font))
 plainOf (GraphicBox e) =
-    plain 0x02 (e .position) Nothing
+    plain 0x02 (e .position) NoData
     (fields.Box (extent (e .width) (e .height) (e .«border_thickness»)) (e .«line_color»))
 plainOf (DiagonalLine e) =
-    plain 0x03 (e .position) Nothing
+    plain 0x03 (e .position) NoData
     (fields.Diagonal (extent (e .width) (e .height) (e .«border_thickness»)) (e .«top_to_bottom»))
 plainOf (GraphicField e) = plain 0x04 (e .position) (Payload (e .«data»)) (fields.Graphic (e .«row_bytes»))
 plainOf (Barcode128 e) = let b = e .barcode in
     plain 0x05 (e .position) (Decoded (e .«data»))
     (fields.Code128 (bars (b .orientation) (e .width) (b .height) (b .line)) (b .mode))
 plainOf (BarcodeEan13 e) = let b = e .barcode in
-    plain 0x06 (e .position) (Decoded (e .«data»)) (fields.Bars (bars (b .orientation) (e .width) (b .height) (b .line)))
+    plain 0x06 (e .position) (Decoded (e .«data»))
+        (fields.Bars (bars (b .orientation) (e .width) (b .height) (b .line)))
 plainOf (BarcodeEan8 e) = let b = e .barcode in
-    plain 0x07 (e .position) (Decoded (e .«data»)) (fields.Bars (bars (b .orientation) (e .width) (b .height) (b .line)))
+    plain 0x07 (e .position) (Decoded (e .«data»))
+        (fields.Bars (bars (b .orientation) (e .width) (b .height) (b .line)))
 plainOf (BarcodeUca e) = let b = e .barcode in
-    plain 0x08 (e .position) (Decoded (e .«data»)) (fields.Bars (bars (b .orientation) (e .width) (b .height) (b .line)))
+    plain 0x08 (e .position) (Decoded (e .«data»))
+        (fields.Bars (bars (b .orientation) (e .width) (b .height) (b .line)))
 plainOf (Barcode2of5 e) = let b = e .barcode in
     plain 0x09 (e .position) (Decoded (e .«data»))
     (fields.Ratio (bars (b .orientation) (e .width) (b .height) (b .line)) (b .«check_digit») (e .«width_ratio»))
@@ -60,4 +63,5 @@ plainOf (BarcodeDatamatrix e) = plain 0x0d (e .position) (Decoded (e .«data»))
 plainOf (BarcodeQr e) = plain 0x0e (e .position) (Decoded (e .«data»)) (fields.Qr (e .barcode) (e .«error_correction»))
 plainOf (Maxicode e) = plain 0x0f (e .position) (Decoded (e .«data»)) (fields.Maxicode (e .code))
 plainOf (BarcodeUcpe e) = let b = e .barcode in
-    plain 0x10 (e .position) (Decoded (e .«data»)) (fields.Bars (bars (b .orientation) (e .width) (b .height) (b .line)))
+    plain 0x10 (e .position) (Decoded (e .«data»))
+        (fields.Bars (bars (b .orientation) (e .width) (b .height) (b .line)))

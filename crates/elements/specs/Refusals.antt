@@ -1,7 +1,12 @@
 -- The number of each refusal (01, "Who causes which number").
 use Prim.Native.Nat.{ℕ}
 use Rattle.elements.specs.declared.refusal.Refusal.{Refusal}
-use Rattle.elements.specs.declared.refusal.Refusal.the-variants.{TextFields, BarcodeFields, Barcode2dFields, LineFields, DiagonalFields, BoxFields, BarcodeType, Barcode2dType, QrData, GraphicFields, GraphicNegative, GraphicTruncated, OutOfRange, InputTooLong, OutputTooShort, StateOutside}
+use Rattle.elements.specs.declared.refusal.Refusal.the-variants.{TextFields, BarcodeFields, Barcode2dFields}
+use Rattle.elements.specs.declared.refusal.Refusal.the-variants.{LineFields, DiagonalFields, BoxFields}
+use Rattle.elements.specs.declared.refusal.Refusal.the-variants.{BarcodeType, Barcode2dType, QrData}
+use Rattle.elements.specs.declared.refusal.Refusal.the-variants.{GraphicFields, GraphicNegative, GraphicTruncated}
+use Rattle.elements.specs.declared.refusal.Refusal.the-variants.{OutOfRange, InputTooLong, OutputTooShort}
+use Rattle.elements.specs.declared.refusal.Refusal.the-variants.{StateOutside}
 
 abbrev pub numberOf : Refusal → ℕ
 -- 1 `A`, 2 `B`, 3 `b`, 4 `LO`/`LW`, 5 `LS`, 6 `X` with too few fields
@@ -21,7 +26,8 @@ numberOf GraphicNegative = 11
 numberOf GraphicTruncated = 12
 -- 13 a sum with the reference, a difference, its absolute value or a font product outside 32 bits
 numberOf OutOfRange = 13
--- 14 input over 16,777,216 bytes; 15 output longer than its buffer; 16 walk state with its place past the end, or its pending count above its place
+-- 14 input over 16,777,216 bytes; 15 output longer than its buffer; 16 walk state with its place past the end, or its
+-- pending count above its place
 numberOf InputTooLong = 14
 numberOf OutputTooShort = 15
 numberOf StateOutside = 16

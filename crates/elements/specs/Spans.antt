@@ -2,7 +2,7 @@
 use mathlib.Core.List.{List, [], _∷_}
 use Prim.Native.Nat.{ℕ, _+_, _≤_}
 use Rattle.elements.specs.declared.plain.Data.{Data}
-use Rattle.elements.specs.declared.plain.Data.the-variants.{Nothing, Payload, Decoded}
+use Rattle.elements.specs.declared.plain.Data.the-variants.{NoData, Payload, Decoded}
 use Rattle.elements.specs.declared.DataSpan.{DataSpan}
 use Rattle.elements.specs.declared.LabelElement.{LabelElement}
 use Rattle.elements.specs.declared.LabelElement.the-variants.{Text, GraphicBox, DiagonalLine, GraphicField}
@@ -74,7 +74,7 @@ shifted n e = onSpan (later n) e
 
 -- the places of its data, if it has any
 abbrev pub spansIn : Data → List DataSpan
-spansIn Nothing = []
+spansIn NoData = []
 spansIn (Payload d) = d ∷ []
 spansIn (Decoded d) = d ∷ []
 

@@ -1,5 +1,7 @@
-// The records of src/elements that frames carry, by value, under the names of the Rust; refusals; a walk's state, and the answer of a call that fills a buffer.
-// The records stand here and not in a module each: every state of every proof spells out the paths of its types, and check times follow their length.
+// The records of src/elements that frames carry, by value, under the names of the Rust; refusals; a walk's state, and
+// the answer of a call that fills a buffer.
+// The records stand here and not in a module each: every state of every proof spells out the paths of its types, and
+// check times follow their length.
 pub mod filled;
 pub mod plain;
 pub mod refusal;

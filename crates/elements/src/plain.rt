@@ -53,7 +53,7 @@ pub enum Fields {
 
 // The data of an element: none, a payload with its total before it, or bytes that are decoded.
 pub enum Data {
-    Nothing,
+    NoData,
     Payload(DataSpan),
     Decoded(DataSpan),
 }
@@ -80,12 +80,12 @@ fn decoded(kind: u8, position: LabelPosition, span: DataSpan, fields: Fields) ->
 
 // With none.
 fn drawn(kind: u8, position: LabelPosition, fields: Fields) -> Plain
-    ensures { λ r. ⌜ r ≡ plain kind position of.Nothing fields ⌝ }
+    ensures { λ r. ⌜ r ≡ plain kind position of.NoData fields ⌝ }
 {
     Plain {
         kind,
         position,
-        data: Data::Nothing,
+        data: Data::NoData,
         fields,
     }
 }

@@ -3,7 +3,7 @@ ghost use mathlib.Core.Path.{_≡_};
 ghost use Rattle.elements.specs.Refusals.{numberOf};
 
 // "inputs up to 16,777,216 bytes": a longer one is InputTooLong.
-pub const INPUT_MAX: usize = 16777216;
+pub const LONGEST: usize = 16777216;
 
 pub enum Refusal {
     // The author of the label: too few fields,
@@ -23,7 +23,8 @@ pub enum Refusal {
     GraphicTruncated,
     // The author of the label: a position or size outside 32 bits.
     OutOfRange,
-    // The host: input too long, buffer too short, a walk state with its place past the end, or its pending count above its place.
+    // The host: input too long, buffer too short, a walk state with its place past the end, or its pending count above
+    // its place.
     InputTooLong,
     OutputTooShort,
     StateOutside,

@@ -1,2 +1,3 @@
 -- an answer and its frame
 pub mod FrameLaws
+pub mod WrittenLaws

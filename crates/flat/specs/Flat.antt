@@ -12,7 +12,7 @@ use Rattle.elements.specs.declared.LabelElement.the-variants as element
 use Rattle.elements.specs.declared.LabelPosition.{LabelPosition}
 use Rattle.elements.specs.declared.walk_state.WalkState.{WalkState}
 use Rattle.element_frames.specs.Frame as frame
-use Rattle.flat.specs.declared.answer.Answer.{Answer}
+use Rattle.flat.specs.declared.answer.FlatAnswer.{FlatAnswer}
 use Rattle.flat.specs.declared.answer.Element.{Element}
 use Rattle.flat.specs.Fields.{Field, saying}
 use Rattle.flat.specs.Fields.{rotation, reverse, colour, direction, line, check, truncate, level}
@@ -107,12 +107,12 @@ nothing = saying 0 (record { x = pos 0; y = pos 0 }) none [] [] []
 
 -- a print, a clear, the end or a refusal: "A print carries the element count"; a refusal has "its number (1 byte), its
 -- place"
-abbrev pub event : ℕ → ℕ → ℕ → ℕ → WalkState → Answer
+abbrev pub event : ℕ → ℕ → ℕ → ℕ → WalkState → FlatAnswer
 event kind number place count next =
     record { kind = kind; number = number; place = place; count = count; next = next; element = nothing }
 
 -- an element: its kind is the answer's
-abbrev pub answered : Element → WalkState → Answer
+abbrev pub answered : Element → WalkState → FlatAnswer
 answered e next = record { kind = e .kind; number = 0; place = 0; count = 0; next = next; element = e }
 
 -- ---- the parts

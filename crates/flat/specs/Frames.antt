@@ -13,7 +13,7 @@ use Rattle.element_frames.specs.Frame.{be32, number, float, part, sized, decode
 use Rattle.element_frames.specs.Frame.{frameOf, countFrame, refusalFrame}
 use Rattle.whole.specs.Step.{State, element, cleared, printed, ended, refused}
 use Rattle.whole.specs.Step as theory
-use Rattle.flat.specs.declared.answer.Answer.{Answer}
+use Rattle.flat.specs.declared.answer.FlatAnswer.{FlatAnswer}
 use Rattle.flat.specs.declared.answer.Element.{Element}
 
 -- where its data stands
@@ -62,7 +62,7 @@ abbrev pub elementFlat : List ℕ → Element → List ℕ
 elementFlat s e = headFlat e ++ restFlat (e .kind) s e
 
 -- "00: element count"; "ff, its number (1 byte), its place"; a clear (17) and the end (18) have no frame
-abbrev pub frameFlat : List ℕ → Answer → List ℕ
+abbrev pub frameFlat : List ℕ → FlatAnswer → List ℕ
 frameFlat s a =
     cond (eqb (a .kind) 0) (countFrame (a .count))
     (cond (eqb (a .kind) 255) (refusalFrame (a .number) (a .place))

@@ -6,3 +6,5 @@ pub mod Flat
 pub mod Steps
 -- 01, "Frames": a frame from the fields of an answer
 pub mod Frames
+-- 01, "Who causes which number": a length, or a refusal's number and place
+pub mod Written

@@ -56,7 +56,7 @@ pub struct Element {
 // What a step answers. A field that is none of its kind's is 0; of a print, a clear, the end and a refusal so is every
 // field of the element.
 #[repr(C)]
-pub struct Answer {
+pub struct FlatAnswer {
     // The element's; or 0 a print, 17 a clear, 18 the end, 255 a refusal.
     pub kind: u8,
     // A refusal's.
@@ -132,11 +132,11 @@ fn nothing() -> Element
 }
 
 // A print, a clear, the end or a refusal.
-pub(crate) fn event(kind: u8, number: u8, place: usize, count: usize, next: WalkState) -> Answer
+pub(crate) fn event(kind: u8, number: u8, place: usize, count: usize, next: WalkState) -> FlatAnswer
     ensures { λ r. ⌜ r ≡ event kind number place count next ⌝ }
 {
     let element = nothing();
-    Answer {
+    FlatAnswer {
         kind,
         number,
         place,
@@ -147,10 +147,10 @@ pub(crate) fn event(kind: u8, number: u8, place: usize, count: usize, next: Walk
 }
 
 // An element, as a step answers it.
-pub(crate) fn answered(element: Element, next: WalkState) -> Answer
+pub(crate) fn answered(element: Element, next: WalkState) -> FlatAnswer
     ensures { λ r. ⌜ r ≡ answered element next ⌝ }
 {
-    Answer {
+    FlatAnswer {
         kind: element.kind,
         number: 0,
         place: 0,

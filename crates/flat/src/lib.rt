@@ -2,3 +2,4 @@
 pub mod answer;
 pub mod element;
 pub mod steps;
+pub mod written;

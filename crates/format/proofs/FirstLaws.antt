@@ -68,7 +68,7 @@ no-block s o e h = record { line = λ z. ap (chunkBy s) e ∙ h; block = λ p. a
 
 pub no-opening : (s : List ℕ) → opensGw s ≡ false → Blocks s 0
 unfolding gwSpan
-no-opening s h = no-block s graphic.Nothing (simp h) refl
+no-opening s h = no-block s graphic.NoGraphic (simp h) refl
 
 block-by : (s bs : List ℕ) (h : Header) (p : List ℕ) (e : ℕ) → chunk s ≡ unit (block bs h p) (drop e s) → 0 < e → e ≤ length s → (go : List ℕ → List ℕ) → written (chunk s) go ≡ ended (take e s) ++ go (drop e s)
 block-by s bs h p e k q l go =

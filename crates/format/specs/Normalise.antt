@@ -1,11 +1,11 @@
--- What is due to the normaliser (01, "format.rs" and "Who causes which number"); the text itself is `normalised` of the crate `grammar`.
+-- What is due to the normaliser (01, "format.rs" and "Who causes which number"); the text itself is `normalised` of the
+-- crate `grammar`.
 use mathlib.Core.Path.{_≡_}
 use mathlib.Core.List.{List, _++_}
 use Prim.Native.Nat.{ℕ, _+_, _<_, _≤_}
 use lib.ListN.{length, take, drop}
 use Rattle.lines.specs.Lines.{ended}
-use Rattle.whole.specs.Given.{Due, text, within}
-use Rattle.whole.specs.Step.{longest}
+use Rattle.elements.specs.Given.{Due, text, within, longest}
 use Rattle.grammar.specs.Found.{textLine}
 use Rattle.grammar.specs.Normal.{chunk, written, normalised}
 

@@ -1,16 +1,14 @@
-// 01's "format.rs": blocks are copied whole, lines lose the ASCII blanks at their ends, and each that is left has one LF behind it. Where the buffer may be
-// too short the text is measured before anything is written.
+// 01's "format.rs": blocks are copied whole, lines lose the ASCII blanks at their ends, and each that is left has one
+// LF behind it. Where the buffer may be too short the text is measured before anything is written.
 ghost use mathlib.Core.Path.{_≡_};
 ghost use Prim.Native.Nat.{_+_, _/_, _<_, _≤_};
 ghost use lib.ListN.{length};
 ghost use Rattle.text.specs.Wrote.{Put};
-ghost use Rattle.whole.specs.Given.{Fills};
-ghost use Rattle.whole.specs.Step.{longest};
-ghost use Rattle.grammar.specs.Filled.{givenOf};
+ghost use Rattle.elements.specs.Given.{Fills, givenOf, longest};
 ghost use Rattle.grammar.specs.Normal.{normalised};
 ghost use Rattle.format.specs.Normalise.{dueOf, Blocks};
 use elements::filled::Filled;
-use elements::refusal::INPUT_MAX;
+use elements::refusal::LONGEST;
 use elements::refusal::Refusal;
 use graphics::gw_span::Graphic;
 use graphics::gw_span::gw_span;
@@ -20,7 +18,8 @@ use lines::line::put_ended;
 use lines::line::put_line;
 use numbers::blank::first;
 
-// How many bytes the block has that stands first in rest, which goes to the end of input; 0 where a line is taken. A malformed `GW` line is a line.
+// How many bytes the block has that stands first in rest, which goes to the end of input; 0 where a line is taken. A
+// malformed `GW` line is a line.
 fn block_len(rest: &[u8]) -> usize
     ensures { λ r. ⌜ Blocks (now (rest .entry)) r ⌝ }
 {
@@ -28,7 +27,7 @@ fn block_len(rest: &[u8]) -> usize
         return 0;
     }
     match gw_span(rest) {
-        Graphic::Nothing => 0,
+        Graphic::NoGraphic => 0,
         Graphic::Refused(n) => 0,
         Graphic::Span(g) => g.data_end,
     }
@@ -92,7 +91,7 @@ fn room_for(n: usize) -> usize
 pub fn normalise(input: &[u8], out: &mut [u8]) -> Filled
     ensures { λ r. ⌜ Fills (now (out .exit)) (now (out .entry)) (dueOf (now (input .entry))) (givenOf r) ⌝ }
 {
-    if INPUT_MAX < input.len() {
+    if LONGEST < input.len() {
         return Filled::Refused(Refusal::InputTooLong, 0);
     }
     if out.len() < room_for(input.len()) {

@@ -15,9 +15,9 @@ use Rattle.element_frames.proofs.FrameLaws.{frame-in}
 use Rattle.text.specs.Wrote.{Put}
 use Rattle.text.proofs.WroteLaws.{wrote, sets-append}
 use Rattle.whole.specs.Reach.{Final, accepted, refusal}
-use Rattle.whole.specs.Step.{step, longest}
-use Rattle.whole.specs.Given.{Given, bytes, refused, text, needed}
-use Rattle.whole.proofs.GivenLaws.{bytes≢refused, bytes-inj}
+use Rattle.whole.specs.Step.{step}
+use Rattle.elements.specs.Given.{Given, bytes, refused, text, needed, longest}
+use Rattle.elements.proofs.GivenLaws.{bytes≢refused, bytes-inj}
 use Rattle.whole.specs.Trace.{Trace, stops, refuses, yields, clears, prints, ending, final, labelsIn, lead, after, trace, onAnswer, Goes}
 use Rattle.whole.proofs.TraceLaws.{labels-after, trace-by, goes-by}
 use Rattle.grammar.specs.Epl.{epl}
@@ -25,9 +25,9 @@ use Rattle.grammar.proofs.FoundLaws.{reads}
 use Rattle.elements.specs.Walk.{fresh}
 use Rattle.walk.specs.Steps.{stateOf, answerOf, traceOf}
 use Rattle.elements.specs.declared.walk_state.WalkState.{WalkState}
-use Rattle.walk.specs.declared.answer.Step.{Step}
-use Rattle.walk.specs.declared.answer.Step.the-variants.{Element, Clear, Print, End, Refused}
-use Rattle.walk.proofs.answer.Step.{enum}
+use Rattle.walk.specs.declared.answer.Answer.{Answer}
+use Rattle.walk.specs.declared.answer.Answer.the-variants.{Element, Clear, Print, End, Refused}
+use Rattle.walk.proofs.answer.Answer.{enum}
 use Rattle.frames.specs.Listing.{FramedLabel, linesOf, labelLines, listingOf, listingDue, dueOf, frontFrames, textFrom}
 
 -- ---- the length, as the first pass counts it: of the labels so far, and of what is pending
@@ -82,13 +82,13 @@ size-is s = sym (longer-zero (needed (dueOf s))) ∙ size-trace s 0 [] (traceOf 
 
 -- ---- at a step: r is the answer of the step from w, and q what it was matched with
 -- the whole walk by the first step's answer
-abbrev pub onStep : List ℕ → Step → Trace LabelElement Unit
+abbrev pub onStep : List ℕ → Answer → Trace LabelElement Unit
 onStep s q = onAnswer epl (trace epl s) (answerOf q)
 
-abbrev pub Moved : List ℕ → WalkState → Step → Type 0
+abbrev pub Moved : List ℕ → WalkState → Answer → Type 0
 Moved s w q = Goes s (stateOf w) (answerOf q)
 
-module _ (s : List ℕ) (w : WalkState) (r q : Step) (e : answerOf r ≡ step epl s (stateOf w)) (k : r ≡ q) where
+module _ (s : List ℕ) (w : WalkState) (r q : Answer) (e : answerOf r ≡ step epl s (stateOf w)) (k : r ≡ q) where
   begins : traceOf s w ≡ onStep s q
   begins = trace-by epl reads s (stateOf w) (answerOf q) (ap answerOf (sym k) ∙ e)
 
@@ -110,7 +110,7 @@ module _ (s : List ℕ) (w : WalkState) (r q : Step) (e : answerOf r ≡ step ep
     text-by = ap listingOf (labels-after epl reads (List ℕ) frameOf s [] (traceOf s start) ∙ ap (labelsIn epl (List ℕ) frameOf s (frontFrames s start)) after-by)
 
 -- an answer that is no element begins with none
-pub lead-none : (s : List ℕ) (q : Step) → OneOf (1 ∷ 2 ∷ 3 ∷ 4 ∷ []) (tagOf (declared enum) q) → linesOf (lead epl (List ℕ) frameOf s (onStep s q)) ≡ []
+pub lead-none : (s : List ℕ) (q : Answer) → OneOf (1 ∷ 2 ∷ 3 ∷ 4 ∷ []) (tagOf (declared enum) q) → linesOf (lead epl (List ℕ) frameOf s (onStep s q)) ≡ []
 lead-none s (Element v x) h = absurd (miss (1 ∷ 2 ∷ 3 ∷ 4 ∷ []) 0 tt h)
 lead-none s (Clear v) h = refl
 lead-none s (Print v n) h = refl

@@ -1,5 +1,5 @@
 -- What the programs print, by what a call that filled their buffer gave back. Assumes nothing.
-use mathlib.Core.Path.{_≡_, refl, ap, subst, _∙_}
+use mathlib.Core.Path.{_≡_, refl, subst, _∙_}
 use mathlib.Core.List.{List, []}
 use Prim.Native.Nat.{ℕ, _<_, _≤_}
 use native.Mathlib.Omega.{arith}
@@ -7,8 +7,8 @@ use lib.ListN.{length}
 use borrow.Author.Tests.{lt-ltb, le-ltb}
 use Rattle.text.specs.Wrote.{Put}
 use Rattle.text.proofs.WroteLaws.{wrote}
-use Rattle.whole.specs.Given.{Given, refused, Due, text, denied, fitting, needed, stored, Fills}
-use Rattle.whole.proofs.GivenLaws.{within-long, within-short}
+use Rattle.elements.specs.Given.{Given, refused, Due, text, denied, fitting, needed, stored, Fills}
+use Rattle.elements.proofs.GivenLaws.{within-long, within-short}
 use Rattle.frames.specs.Printing.{refusalLine, refusalBy, shownBy, printed, Prints}
 
 -- m is what the call made of l by what fitted, and n what is printed from

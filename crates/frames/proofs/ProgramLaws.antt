@@ -1,5 +1,5 @@
--- A program whose first buffer holds one byte more than an input may have, and whose second has room for all that is due, prints what 01 says of standard
--- input, however long that is. Assumes nothing.
+-- A program whose first buffer holds one byte more than an input may have, and whose second has room for all that is
+-- due, prints what 01 says of standard input, however long that is. Assumes nothing.
 use mathlib.Core.Path.{_≡_, refl, sym, ap, _∙_}
 use mathlib.Core.Bool.{Bool, true, false}
 use mathlib.Core.List.{List}
@@ -13,9 +13,9 @@ use Rattle.text.specs.Wrote.{Put}
 use Rattle.text.proofs.WroteLaws.{wrote}
 use Rattle.element_frames.specs.Frame.{refusalFrame}
 use Rattle.element_frames.proofs.HexLaws.{length-line, length-be32}
-use Rattle.whole.specs.Given.{Due, text, denied, fitting}
+use Rattle.elements.specs.Given.{Due, text, denied, fitting}
 use Rattle.whole.specs.Trace.{Outcome, listed, refusal-of}
-use Rattle.whole.proofs.GivenLaws.{within-long, within-short}
+use Rattle.elements.proofs.GivenLaws.{within-long, within-short}
 use Rattle.frames.specs.Listing.{FramedLabel, listingOf, outcomeOf, listingDue, dueOf}
 use Rattle.frames.specs.Printing.{refusalBy, shownOf, shownBy, printed, Took, shownFor, Shows}
 use Rattle.frames.proofs.Room.{length-listing-le}

@@ -1,4 +1,5 @@
--- A listing has at most 16 bytes for each byte of its input: an element's line, with the line of the label that it may make alone, is paid by its unit.
+-- A listing has at most 16 bytes for each byte of its input: an element's line, with the line of the label that it may
+-- make alone, is paid by its unit.
 -- Assumes nothing.
 use mathlib.Core.Path.{_≡_, refl, sym, ap, subst, _∙_}
 use mathlib.Core.List.{List, [], _∷_, _++_, map}
@@ -12,7 +13,7 @@ use Rattle.elements.specs.declared.LabelElement.{LabelElement}
 use Rattle.elements.specs.declared.LabelElement.the-variants.{GraphicField}
 use Rattle.elements.specs.declared.LabelPosition.{LabelPosition}
 use Rattle.elements.specs.declared.plain.Data.{Data}
-use Rattle.elements.specs.declared.plain.Data.the-variants.{Nothing, Payload, Decoded}
+use Rattle.elements.specs.declared.plain.Data.the-variants.{NoData, Payload, Decoded}
 use Rattle.elements.specs.Plain.{plainOf}
 use Rattle.elements.specs.Spans.{spansIn, spans, later, shifted}
 use Rattle.elements.proofs.PlainLaws.{spans-shifted}
@@ -20,12 +21,12 @@ use Rattle.element_frames.specs.Frame.{frameOf, lens}
 use Rattle.element_frames.proofs.FrameLaws.{frame-le, frame-plain}
 use Rattle.parameters.specs.declared.position.Placed.{Placed}
 use Rattle.parameters.specs.declared.position.Placed.the-variants as placing
-use Rattle.parameters.specs.declared.reading.Reading.the-variants as reading
+use Rattle.parameters.specs.declared.reading.LineReading.the-variants as reading
 use Rattle.parameters.specs.Position.{placed, yields}
 use Rattle.whole.specs.Language.{yield}
 use Rattle.whole.specs.Step.{State, Answer, element, cleared, printed, ended, refused, step}
 use Rattle.whole.specs.Reach.{Final, accepted, refusal}
-use Rattle.whole.specs.Given.{fitting}
+use Rattle.elements.specs.Given.{fitting}
 use Rattle.whole.specs.Trace.{Trace, Goes, left, Outcome, listed, refusal-of, ending, final, labelsIn, trace, onAnswer}
 use Rattle.whole.proofs.TraceLaws.{trace-is, goes-step, Paid, paid-step}
 use Rattle.commands.specs.Line.{readLine}
@@ -43,7 +44,7 @@ use Rattle.frames.proofs.ListingLaws.{length-lines, length-label}
 
 -- an element has one span of data or none
 one-span : (d : Data) → (spansIn d ≡ []) ⊎ ((x : DataSpan) × (spansIn d ≡ x ∷ []))
-one-span Nothing = inl refl
+one-span NoData = inl refl
 one-span (Payload d) = inr (d, refl)
 one-span (Decoded d) = inr (d, refl)
 

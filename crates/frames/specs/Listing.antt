@@ -3,7 +3,7 @@ use mathlib.Core.List.{List, [], _∷_, _++_}
 use Prim.Native.Nat.{ℕ}
 use Rattle.element_frames.specs.Frame.{frameOf, countFrame}
 use Rattle.element_frames.specs.Hex.{lineOf}
-use Rattle.whole.specs.Given.{Due, text, denied}
+use Rattle.elements.specs.Given.{Due, text, denied}
 use Rattle.whole.specs.Labels.{Label}
 use Rattle.whole.specs.Trace.{Outcome, listed, refusal-of, outcome, labelsIn, lead}
 use Rattle.grammar.specs.Epl.{epl}

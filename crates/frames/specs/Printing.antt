@@ -8,7 +8,7 @@ use lib.ListN.{length, take}
 use Rattle.text.specs.Wrote.{Wrote}
 use Rattle.element_frames.specs.Frame.{refusalFrame}
 use Rattle.element_frames.specs.Hex.{lineOf}
-use Rattle.whole.specs.Given.{Given, bytes, refused, Due, text, denied, within, fitting}
+use Rattle.elements.specs.Given.{Given, bytes, refused, Due, text, denied, within, fitting}
 use Rattle.frames.specs.Listing.{dueOf}
 
 -- "A refusal prints only ff, its number (1 byte), its place"

@@ -1,10 +1,10 @@
-// 01's listing: a label is its frame 00, then the frames of its elements; one line a frame, in hexadecimal. The whole file is walked before anything is written.
+// 01's listing: a label is its frame 00, then the frames of its elements; one line a frame, in hexadecimal. The whole
+// file is walked before anything is written.
 ghost use mathlib.Core.Path.{_≡_};
 ghost use Prim.Native.Nat.{_+_, _≤_};
 ghost use lib.ListN.{length};
 ghost use Rattle.text.specs.Wrote.{Put};
-ghost use Rattle.whole.specs.Given.{needed, Fills};
-ghost use Rattle.grammar.specs.Filled.{givenOf};
+ghost use Rattle.elements.specs.Given.{needed, Fills, givenOf};
 ghost use Rattle.frames.specs.Listing.{linesOf, frontFrames, labelText, allText, dueOf};
 use elements::filled::Filled;
 use elements::refusal::Refusal;
@@ -13,7 +13,7 @@ use elements::walk_state::start;
 use frame_lines::frame::frame_len;
 use frame_lines::frame::put_count;
 use frame_lines::frame::put_frame;
-use walk::answer::Step;
+use walk::answer::Answer;
 use walk::step::step;
 
 // The lines of the elements from st up to the first answer that is none.
@@ -24,7 +24,7 @@ fn put_elements(input: &[u8], out: &mut [u8], at: usize, st: WalkState) -> usize
     let mut to = at;
     let mut here = st;
     loop {
-        let Step::Element(next, e) = step(input, here) else {
+        let Answer::Element(next, e) = step(input, here) else {
             return to;
         };
         to = put_frame(input, out, to, e);
@@ -41,7 +41,8 @@ fn put_label(input: &[u8], out: &mut [u8], at: usize, n: usize, first: WalkState
     put_elements(input, out, to, first)
 }
 
-// The labels that the walk answers before its end or refusal. Each is walked twice: to its print for the count, then for its frames.
+// The labels that the walk answers before its end or refusal. Each is walked twice: to its print for the count, then
+// for its frames.
 fn put_labels(input: &[u8], out: &mut [u8]) -> usize
     requires { ⌜ length (allText (now input)) ≤ length (now out) ⌝ }
     ensures { λ r. ⌜ Put (now (out .exit)) (now (out .entry)) 0 (allText (now (input .entry))) r ⌝ }
@@ -51,22 +52,22 @@ fn put_labels(input: &[u8], out: &mut [u8]) -> usize
     let mut at = 0;
     loop {
         match step(input, here) {
-            Step::Element(next, _) => {
+            Answer::Element(next, _) => {
                 here = next;
             }
-            Step::Clear(next) => {
+            Answer::Clear(next) => {
                 first = next;
                 here = next;
             }
-            Step::Print(next, p) => {
+            Answer::Print(next, p) => {
                 at = put_label(input, out, at, p.count, first);
                 first = next;
                 here = next;
             }
-            Step::End(next) => {
+            Answer::End(next) => {
                 return at;
             }
-            Step::Refused(next, k, p) => {
+            Answer::Refused(next, k, p) => {
                 return at;
             }
         }
@@ -82,24 +83,24 @@ pub(crate) fn measure(input: &[u8]) -> Filled
     let mut pend = 0;
     loop {
         match step(input, here) {
-            Step::Element(next, e) => {
+            Answer::Element(next, e) => {
                 let n = frame_len(input, e);
                 pend += 2 * n + 1;
                 here = next;
             }
-            Step::Clear(next) => {
+            Answer::Clear(next) => {
                 pend = 0;
                 here = next;
             }
-            Step::Print(next, p) => {
+            Answer::Print(next, p) => {
                 total += 11 + pend;
                 pend = 0;
                 here = next;
             }
-            Step::End(next) => {
+            Answer::End(next) => {
                 return Filled::Bytes(total);
             }
-            Step::Refused(next, k, p) => {
+            Answer::Refused(next, k, p) => {
                 return Filled::Refused(k, p);
             }
         }

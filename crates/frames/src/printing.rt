@@ -1,7 +1,7 @@
 // What the programs print for an input.
 ghost use lib.ListN.{length};
 ghost use Rattle.text.specs.Wrote.{Put};
-ghost use Rattle.grammar.specs.Filled.{givenOf};
+ghost use Rattle.elements.specs.Given.{givenOf};
 ghost use Rattle.frames.specs.Printing.{Prints, printedOf};
 use crate::listing::list;
 use elements::filled::Filled;
@@ -11,7 +11,8 @@ use frame_lines::frame::put_refusal;
 // The longest input of a program.
 pub const PROGRAM_MAX: usize = 65536;
 
-// How many bytes of out there are to print when a call has filled it and answered a; a refusal is written as its one frame ff, from the start, where out can hold it.
+// How many bytes of out there are to print when a call has filled it and answered a; a refusal is written as its one
+// frame ff, from the start, where out can hold it.
 pub fn put_answer(out: &mut [u8], a: Filled) -> usize
     ensures { λ r. ⌜ Prints (now (out .exit)) (now (out .entry)) (givenOf a) r ⌝ }
 {
@@ -26,7 +27,8 @@ pub fn put_answer(out: &mut [u8], a: Filled) -> usize
     }
 }
 
-// The listing of input, or the one frame ff of a refusal, from the start of out; nothing where out cannot hold the refusal. Gives its length.
+// The listing of input, or the one frame ff of a refusal, from the start of out; nothing where out cannot hold the
+// refusal. Gives its length.
 pub fn print_listing(input: &[u8], out: &mut [u8]) -> usize
     ensures { λ r. ⌜ Put (now (out .exit)) (now (out .entry)) 0 (printedOf (now (input .entry)) (length (now (out .entry)))) r ⌝ }
 {

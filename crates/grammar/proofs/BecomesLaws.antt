@@ -1,11 +1,10 @@
--- The normalised text of a string that divides is what becomes of its units (`becomes`); trimming takes ASCII blanks off both ends (`stripped`).
+-- The normalised text of a string that divides is what becomes of its units (`becomes`); trimming takes ASCII blanks
+-- off both ends (`stripped`).
 -- Assumes nothing.
 use mathlib.Core.Path.{_≡_, refl, sym, ap, subst, _∙_}
-use mathlib.Core.Bool.{Bool, true, false}
+use mathlib.Core.Bool.{Bool, false}
 use mathlib.Core.List.{List, [], _∷_, _++_, append-nil, append-assoc, reverse, reverse-append, reverse-reverse}
 use Prim.Native.Nat.{ℕ}
-use lib.ListN.{length}
-use native.Mathlib.Omega.{arith}
 use Rattle.text.specs.Blank.{isAsciiBlank, dropWhile, front, trimAscii}
 use Rattle.whole.specs.Division.{Division, done, more}
 use Rattle.whole.specs.Normal.{each}

@@ -105,10 +105,10 @@ module _ (bs : List ℕ) (h : Header) (q : List ℕ) (w : Before bs h) where
 refused≢span : {n : Refusal} {g : GwSpan} → graphic.Refused n ≡ graphic.Span g → ⊥
 refused≢span e = let z : _≡_ {A = ℕ} 0 1 = cc in omega arith
 
-refused≢nothing : {n : Refusal} → graphic.Refused n ≡ graphic.Nothing → ⊥
+refused≢nothing : {n : Refusal} → graphic.Refused n ≡ graphic.NoGraphic → ⊥
 refused≢nothing e = let z : _≡_ {A = ℕ} 0 1 = cc in omega arith
 
-span≢nothing : {g : GwSpan} → graphic.Span g ≡ graphic.Nothing → ⊥
+span≢nothing : {g : GwSpan} → graphic.Span g ≡ graphic.NoGraphic → ⊥
 span≢nothing e = let z : _≡_ {A = ℕ} 0 1 = cc in omega arith
 
 -- the graphic of a header whose payload of n bytes begins at start
@@ -241,7 +241,7 @@ span-sound s g e =
     (λ o. absurd (span≢nothing (sym (simp o at e))))
 
 -- ---- no block
-pub span-none : (s : List ℕ) → opensGw s ≡ false → gwSpan s ≡ graphic.Nothing
+pub span-none : (s : List ℕ) → opensGw s ≡ false → gwSpan s ≡ graphic.NoGraphic
 unfolding gwSpan
 span-none s o = simp o
 
@@ -249,11 +249,11 @@ neither : {A : Type 0} (x : Bool) {a b c : A} → (a ≡ c → ⊥) → (b ≡ c
 neither true f g = f
 neither false f g = g
 
-measured-some : (m : GwNumbers) (start left : ℕ) → measured m start left ≡ graphic.Nothing → ⊥
+measured-some : (m : GwNumbers) (start left : ℕ) → measured m start left ≡ graphic.NoGraphic → ⊥
 unfolding measured
 measured-some m start left = neither (ltZ (m .«width_bytes») (pos 0) || ltZ (m .lines) (pos 0)) refused≢nothing (neither (ltb left (total m)) refused≢nothing span≢nothing)
 
-pub none-opens : (s : List ℕ) → gwSpan s ≡ graphic.Nothing → opensGw s ≡ false
+pub none-opens : (s : List ℕ) → gwSpan s ≡ graphic.NoGraphic → opensGw s ≡ false
 unfolding gwSpan
 none-opens s e =
     test (opensGw s)

@@ -1,4 +1,5 @@
--- What a reader of one unit answers where a graphic stands first: what `blockReading` says, at the block's place; and its data lies in the block.
+-- What a reader of one unit answers where a graphic stands first: what `blockReading` says, at the block's place; and
+-- its data lies in the block.
 -- Assumes nothing.
 use mathlib.Core.Path.{_≡_, refl, sym, ap, _∙_}
 use mathlib.Core.List.{List, [], _++_}
@@ -29,15 +30,15 @@ use Rattle.grammar.specs.Epl.{actOf, acts, epl}
 use Rattle.grammar.proofs.BlockLaws.{block-length, blockSpan, span-sound}
 use Rattle.grammar.proofs.FoundLaws.{span-first}
 
-refused≢nothing : {n : Refusal} → block.Refused n ≡ block.Nothing → ⊥
+refused≢nothing : {n : Refusal} → block.Refused n ≡ block.NoBlock → ⊥
 refused≢nothing e = let z : _≡_ {A = ℕ} 0 1 = cc in omega arith
 
-element≢nothing : {size : ℕ} {e : LabelElement} → block.Element e size ≡ block.Nothing → ⊥
+element≢nothing : {size : ℕ} {e : LabelElement} → block.Element e size ≡ block.NoBlock → ⊥
 element≢nothing e = let z : _≡_ {A = ℕ} 0 1 = cc in omega arith
 
 -- what is answered for a block
 abbrev blockTurn : Block → Reading LabelPosition LabelElement Unit
-blockTurn block.Nothing = nothing
+blockTurn block.NoBlock = nothing
 blockTurn (block.Element e size) = gives size e
 blockTurn (block.Refused n) = fault (numberOf n)
 
@@ -60,23 +61,23 @@ span-reads s g r e =
     ap (reading epl r) (span-first s g k) ∙ block-reads (k .bs) (k .h) (k .p) r ∙ ap (λ (x : GwSpan). blockTurn (graphicAt x r)) (sym (k .is))
 
 -- a graphic stands first, or one that is refused
-block-turn : (s : List ℕ) (r : LabelPosition) → (blockReading (gwSpan s) r ≡ block.Nothing → ⊥) → readingOf epl s r ≡ blockTurn (blockReading (gwSpan s) r)
+block-turn : (s : List ℕ) (r : LabelPosition) → (blockReading (gwSpan s) r ≡ block.NoBlock → ⊥) → readingOf epl s r ≡ blockTurn (blockReading (gwSpan s) r)
 unfolding first
 block-turn s r n = by (gwSpan s) refl n
   where
-    by : (o : Graphic) → gwSpan s ≡ o → (blockReading o r ≡ block.Nothing → ⊥) → readingOf epl s r ≡ blockTurn (blockReading o r)
-    by graphic.Nothing e n = absurd (n refl)
+    by : (o : Graphic) → gwSpan s ≡ o → (blockReading o r ≡ block.NoBlock → ⊥) → readingOf epl s r ≡ blockTurn (blockReading o r)
+    by graphic.NoGraphic e n = absurd (n refl)
     by (graphic.Refused m) e n = ap (λ (o : Graphic). reading epl r (found s o)) e
     by (graphic.Span g) e n = span-reads s g r e
 
 -- ---- as its reader has it: s stands at a place
 moved-block : (at : ℕ) (b : Block) → moved epl at (blockTurn b) ≡ blockTurn (laterBlock at b)
-moved-block at block.Nothing = refl
+moved-block at block.NoBlock = refl
 moved-block at (block.Refused n) = refl
 moved-block at (block.Element e size) = refl
 
 module _ (at : ℕ) (s : List ℕ) (r : LabelPosition) where
-  block-moved : (b : Block) → (b ≡ block.Nothing → ⊥) → laterBlock at (blockReading (gwSpan s) r) ≡ b → moved epl at (readingOf epl s r) ≡ blockTurn b
+  block-moved : (b : Block) → (b ≡ block.NoBlock → ⊥) → laterBlock at (blockReading (gwSpan s) r) ≡ b → moved epl at (readingOf epl s r) ≡ blockTurn b
   block-moved b n h = ap (moved epl at) (block-turn s r (λ e. n (sym h ∙ ap (laterBlock at) e))) ∙ moved-block at (blockReading (gwSpan s) r) ∙ ap blockTurn h
 
   pub block-fault : (n : Refusal) → laterBlock at (blockReading (gwSpan s) r) ≡ block.Refused n → moved epl at (readingOf epl s r) ≡ fault (numberOf n)
@@ -85,16 +86,16 @@ module _ (at : ℕ) (s : List ℕ) (r : LabelPosition) where
   pub block-gives : (size : ℕ) (e : LabelElement) → laterBlock at (blockReading (gwSpan s) r) ≡ block.Element e size → moved epl at (readingOf epl s r) ≡ gives size e
   block-gives size e h = block-moved (block.Element e size) element≢nothing h
 
-  pub block-none : laterBlock at (blockReading (gwSpan s) r) ≡ block.Nothing → gwSpan s ≡ graphic.Nothing
+  pub block-none : laterBlock at (blockReading (gwSpan s) r) ≡ block.NoBlock → gwSpan s ≡ graphic.NoGraphic
   unfolding graphicAt
   block-none h = by (gwSpan s) h
     where
-      no : (g : GwSpan) (o : Placed) → laterBlock at (graphicPlaced g o) ≡ block.Nothing → ⊥
+      no : (g : GwSpan) (o : Placed) → laterBlock at (graphicPlaced g o) ≡ block.NoBlock → ⊥
       no g (placing.At q) h = element≢nothing h
       no g placing.Outside h = refused≢nothing h
 
-      by : (o : Graphic) → laterBlock at (blockReading o r) ≡ block.Nothing → o ≡ graphic.Nothing
-      by graphic.Nothing h = refl
+      by : (o : Graphic) → laterBlock at (blockReading o r) ≡ block.NoBlock → o ≡ graphic.NoGraphic
+      by graphic.NoGraphic h = refl
       by (graphic.Refused m) h = absurd (refused≢nothing h)
       by (graphic.Span g) h = absurd (no g (placed (g .at .x) (g .at .y) r) h)
 

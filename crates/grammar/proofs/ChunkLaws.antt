@@ -22,7 +22,7 @@ unfolding chunk first
 chunk-sound s u rest h = by (gwSpan s) refl h
   where
     by : (o : Graphic) → gwSpan s ≡ o → chunkBy s o ≡ unit u rest → Cut s u rest
-    by graphic.Nothing e h = line-sound s u rest h .0
+    by graphic.NoGraphic e h = line-sound s u rest h .0
     by (graphic.Refused n) e h = line-sound s u rest h .0
     by (graphic.Span g) e h = let f = reads .sound s u rest (ap (found s) e ∙ h) in (f .0, f .2)
 

@@ -1,4 +1,5 @@
--- Each command that draws or has data: refused as 01 numbers the test that fails; where all hold, an element with that data, or 13.
+-- Each command that draws or has data: refused as 01 numbers the test that fails; where all hold, an element with that
+-- data, or 13.
 -- Assumes nothing.
 use mathlib.Core.Path.{_≡_, refl}
 use mathlib.Core.Bool.{Bool, true, false, cond, not, _&&_, _||_, false≢true}
@@ -22,8 +23,8 @@ use Rattle.elements.specs.Refusals.{numberOf}
 use Rattle.elements.specs.Spans.{spans}
 use Rattle.parameters.specs.declared.position.Placed.{Placed}
 use Rattle.parameters.specs.declared.position.Placed.the-variants as placing
-use Rattle.parameters.specs.declared.reading.Reading.{Reading}
-use Rattle.parameters.specs.declared.reading.Reading.the-variants as reading
+use Rattle.parameters.specs.declared.reading.LineReading.{LineReading}
+use Rattle.parameters.specs.declared.reading.LineReading.the-variants as reading
 use Rattle.parameters.specs.FieldValues.{fieldsFrom}
 use Rattle.parameters.specs.Position.{placed, yields}
 use Rattle.texts.specs.declared.epl_text.TextFields.{TextFields}
@@ -52,8 +53,8 @@ use Rattle.grammar.specs.WellFormed.{atLeast, dataCounted, dataTyped, da
 use Rattle.grammar.proofs.TypeLaws.{isListed2d, isQr, typed-2d}
 
 -- past its tests: an element whose data is ds, or 13
-abbrev pub Passed : List DataSpan → Reading → Type 0
-Passed ds reading.Nothing = Unit
+abbrev pub Passed : List DataSpan → LineReading → Type 0
+Passed ds reading.Passed = Unit
 Passed ds reading.Clear = Unit
 Passed ds (reading.Reference x y) = Unit
 Passed ds (reading.Element e) = spans e ≡ ds
@@ -61,7 +62,7 @@ Passed ds reading.Print = Unit
 Passed ds (reading.Refused n) = n ≡ refusal.OutOfRange
 
 -- the tests hold, and the reading is past them; or it is refused as 01's number k
-abbrev pub Meets : Bool → ℕ → List DataSpan → Reading → Type 0
+abbrev pub Meets : Bool → ℕ → List DataSpan → LineReading → Type 0
 Meets true k ds x = Passed ds x
 Meets false k ds x = (n : Refusal) × (x ≡ reading.Refused n) × (numberOf n ≡ k)
 
@@ -70,7 +71,7 @@ passed-yields (placing.At p) f ds h = h p
 passed-yields placing.Outside f ds h = refl
 
 -- the number m of fields comes first, then the type, then the data's size
-meets-count : (m k : ℕ) (y z : Bool) (f : ℕ) (n : Refusal) (ds : List DataSpan) (x : Reading) → Meets (y && z) f ds x
+meets-count : (m k : ℕ) (y z : Bool) (f : ℕ) (n : Refusal) (ds : List DataSpan) (x : LineReading) → Meets (y && z) f ds x
     → Meets (leb k m && y && z) (cond (leb k m) f (numberOf n)) ds (cond (ltb m k) (reading.Refused n) x)
 meets-count m k y z f n ds x h =
     test (leb k m)
@@ -80,7 +81,7 @@ meets-count m k y z f n ds x h =
 -- `LO`, `LW`, `LS`, `X`
 
 -- k fields at least, or the number f
-abbrev MeetsDrawn : ℕ → ℕ → List ℕ → Reading → Type 0
+abbrev MeetsDrawn : ℕ → ℕ → List ℕ → LineReading → Type 0
 MeetsDrawn k f s x = Meets (atLeast k s && true && true) (cond (atLeast k s) 9 f) [] x
 
 pub meets-line : (s : List ℕ) (c : LineColor) (r : LabelPosition) → MeetsDrawn 4 4 s (lineReading s c r)
@@ -106,7 +107,7 @@ unfolding boxReading
 meets-box s r = meets-count (length (fields s)) 5 true true 9 refusal.BoxFields [] _ (passed-box (cornersAt s .thickness) (drawnAt (cornersAt s) r))
 
 -- the parameters s and the data t of c, which lies at d
-abbrev MeetsData : DataCommand → List ℕ → List ℕ → DataSpan → Reading → Type 0
+abbrev MeetsData : DataCommand → List ℕ → List ℕ → DataSpan → LineReading → Type 0
 MeetsData c s t d x =
     Meets (dataCounted c s && dataTyped c s && dataSized c s t) (cond (dataCounted c s) (cond (dataTyped c s) 9 (typeFault (Data c))) (countFault (Data c))) (d ∷ []) x
 

@@ -1,4 +1,5 @@
--- The earliest refused line: what `Fails` finds by the reader's acts is `Earliest`; there is one at most, and none where a string divides in range.
+-- The earliest refused line: what `Fails` finds by the reader's acts is `Earliest`; there is one at most, and none
+-- where a string divides in range.
 -- Assumes nothing.
 use mathlib.Core.Path.{_≡_, refl, sym, ap, subst, _∙_}
 use mathlib.Core.List.{List, _++_}

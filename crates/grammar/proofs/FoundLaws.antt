@@ -73,7 +73,7 @@ span-first s g k = ap first (k .cut) ∙ block-finds (k .bs) (k .h) (k .p) (k .r
 
 found-sound : (s : List ℕ) (o : Graphic) (u : EplUnit) (rest : List ℕ) → gwSpan s ≡ o → found s o ≡ unit u rest → Cut s u rest × Stands u rest
 unfolding first
-found-sound s graphic.Nothing u rest e h = command-sound s u rest (none-opens s e) h
+found-sound s graphic.NoGraphic u rest e h = command-sound s u rest (none-opens s e) h
 found-sound s (graphic.Refused n) u rest e h = absurd (bad≢unit h)
 found-sound s (graphic.Span g) u rest e h =
     let k = span-sound s g e in
@@ -81,7 +81,7 @@ found-sound s (graphic.Span g) u rest e h =
     ((k .cut, omega (arith, length-append (k .bs) (gw (k .h) (k .p)))), k .stands)
 
 found-none : (s : List ℕ) (o : Graphic) → found s o ≡ none → s ≡ []
-found-none s graphic.Nothing h = text-line-none s (judged-none (textLine s) h)
+found-none s graphic.NoGraphic h = text-line-none s (judged-none (textLine s) h)
 found-none s (graphic.Refused n) h = absurd (bad≢none h)
 found-none s (graphic.Span g) h = absurd (none≢unit (sym h))
 

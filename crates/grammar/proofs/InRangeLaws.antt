@@ -1,5 +1,5 @@
--- A division has labels exactly where every unit's numbers fit at the reference that stands there (`InRange`), and they are then those that the roles of its
--- units say (`labelsBy`).
+-- A division has labels exactly where every unit's numbers fit at the reference that stands there (`InRange`), and they
+-- are then those that the roles of its units say (`labelsBy`).
 -- Assumes nothing.
 use mathlib.Core.Path.{_≡_, refl, sym, ap, _∙_}
 use mathlib.Core.List.{List, _∷_, _++_, append-assoc}

@@ -1,4 +1,5 @@
--- A line and the line without its blanks say the same; where the line yields, its data lies as many bytes later as blanks stand before it.
+-- A line and the line without its blanks say the same; where the line yields, its data lies as many bytes later as
+-- blanks stand before it.
 -- Assumes nothing.
 use mathlib.Core.Path.{_≡_, sym, ap, _∙_}
 use mathlib.Core.List.{List, _++_}

@@ -17,7 +17,7 @@ use Rattle.elements.specs.declared.DataSpan.{DataSpan}
 use Rattle.elements.specs.declared.LabelElement.{LabelElement}
 use Rattle.elements.specs.declared.LabelPosition.{LabelPosition}
 use Rattle.elements.specs.Spans.{spans}
-use Rattle.parameters.specs.declared.reading.Reading.the-variants as reading
+use Rattle.parameters.specs.declared.reading.LineReading.the-variants as reading
 use Rattle.spelling.specs.declared.command.Command.{Command}
 use Rattle.spelling.specs.declared.command.Command.the-variants.{Clear, Reference, Data, Line, Diagonal, Box, Print, Other}
 use Rattle.spelling.specs.declared.command.DataCommand.{DataCommand}

@@ -18,7 +18,8 @@ pub mod ReadingLaws
 -- where the data of an element lies, and how long its line is
 pub mod SpanLaws
 pub mod LengthLaws
--- normalised text: what is taken first; a line without its blanks, and what it then says; a unit's normal form; the whole
+-- normalised text: what is taken first; a line without its blanks, and what it then says; a unit's normal form; the
+-- whole
 pub mod ChunkLaws
 pub mod TrimmedLaws
 pub mod LaterLaws

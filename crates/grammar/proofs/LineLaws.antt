@@ -1,4 +1,5 @@
--- A line, whatever it says: `textLine` finds the one that stands first, and a line opens with `GW` where the string from it on does.
+-- A line, whatever it says: `textLine` finds the one that stands first, and a line opens with `GW` where the string
+-- from it on does.
 -- Assumes nothing.
 use mathlib.Core.Path.{_≡_, refl, sym, ap, _∙_}
 use mathlib.Core.Bool.{false}

@@ -51,7 +51,7 @@ line-by r t (b ∷ q) h =
 pub line-none : (r : LabelPosition) → readingOf epl [] r ≡ nothing
 line-none r = ap (reading epl r) (reads .at-end)
 
-pub line-reads : (s : List ℕ) (r : LabelPosition) → gwSpan s ≡ graphic.Nothing → 0 < length s → readingOf epl s r ≡ lineTurn (sizeBy (indexOf 10 s) (length s)) r (take (indexOf 10 s) s)
+pub line-reads : (s : List ℕ) (r : LabelPosition) → gwSpan s ≡ graphic.NoGraphic → 0 < length s → readingOf epl s r ≡ lineTurn (sizeBy (indexOf 10 s) (length s)) r (take (indexOf 10 s) s)
 unfolding first
 line-reads s r e h =
     let whole = front-drop notLf s in

@@ -1,4 +1,5 @@
--- Normalised text, unit by unit: a unit that stands first is written in its normal form, which is settled, has its blocks and grows little; a block is its bytes.
+-- Normalised text, unit by unit: a unit that stands first is written in its normal form, which is settled, has its
+-- blocks and grows little; a block is its bytes.
 -- Assumes nothing.
 use mathlib.Core.Path.{_≡_, refl, sym, ap, subst, _∙_}
 use mathlib.Core.List.{List, [], _∷_, _++_, append-nil}
@@ -29,7 +30,7 @@ unfolding first chunk
 chunk-first s u rest h = by (gwSpan s) h
   where
     by : (o : Graphic) → found s o ≡ unit u rest → chunkBy s o ≡ unit u rest
-    by graphic.Nothing h = judged-sound (textLine s) u rest h .0
+    by graphic.NoGraphic h = judged-sound (textLine s) u rest h .0
     by (graphic.Refused n) h = absurd (bad≢unit h)
     by (graphic.Span g) h = h
 
@@ -92,7 +93,7 @@ unfolding chunk first
 chunk-grows s u rest h = by (gwSpan s) refl h
   where
     by : (o : Graphic) → gwSpan s ≡ o → chunkBy s o ≡ unit u rest → Grows (length (bytes u)) (length (each bytes (normal u))) rest
-    by graphic.Nothing e h = text-grows u rest (line-sound s u rest h .1)
+    by graphic.NoGraphic e h = text-grows u rest (line-sound s u rest h .1)
     by (graphic.Refused n) e h = text-grows u rest (line-sound s u rest h .1)
     by (graphic.Span g) e h = normal-grows u rest (reads .sound s u rest (ap (found s) e ∙ h) .1)
 

@@ -9,8 +9,8 @@ use Rattle.text.proofs.TrimLaws.{trim-trim-ascii}
 use Rattle.elements.specs.declared.LabelElement.{LabelElement}
 use Rattle.elements.specs.declared.LabelPosition.{LabelPosition}
 use Rattle.elements.specs.Spans.{In, shifted}
-use Rattle.parameters.specs.declared.reading.Reading.{Reading}
-use Rattle.parameters.specs.declared.reading.Reading.the-variants as reading
+use Rattle.parameters.specs.declared.reading.LineReading.{LineReading}
+use Rattle.parameters.specs.declared.reading.LineReading.the-variants as reading
 use Rattle.parameters.specs.Reading.{laterReading}
 use Rattle.spelling.specs.Command.{isReference, isPrint, commandOf}
 use Rattle.commands.specs.Line.{leadOf, readLine}
@@ -44,7 +44,7 @@ normal-solid (line t) rest st = kept-solid (trimAscii t) (command-trimmed t st)
 normal-solid (last t) rest st = kept-solid (trimAscii t) (command-trimmed t (st .0))
 
 -- ---- and does the same
-empty-says : (t : List ℕ) (r : LabelPosition) → trim t ≡ [] → readLine t r ≡ reading.Nothing
+empty-says : (t : List ℕ) (r : LabelPosition) → trim t ≡ [] → readLine t r ≡ reading.Passed
 unfolding readLine commandOf isReference isPrint
 empty-says t r e = rw e
 
@@ -68,12 +68,12 @@ module _ (F : Type 0) (frame : List ℕ → LabelElement → F)
 
   -- a line does what it does alone and without its blanks
   line-does : (u : EplUnit) (t end : List ℕ) (r : LabelPosition) (p : List F) → bytes u ≡ t ++ end → does u t r p ≡ does (last (trim t)) (trim t) r p
-  line-does u t end r p b = ap (λ (x : Reading). effect epl F frame r p u (actOf r x)) (line-later t r) ∙ by (readLine (trim t) r) refl
+  line-does u t end r p b = ap (λ (x : LineReading). effect epl F frame r p u (actOf r x)) (line-later t r) ∙ by (readLine (trim t) r) refl
     where
-      by : (x : Reading) → readLine (trim t) r ≡ x → effect epl F frame r p u (actOf r (laterReading (leadOf t) x)) ≡ effect epl F frame r p (last (trim t)) (actOf r x)
+      by : (x : LineReading) → readLine (trim t) r ≡ x → effect epl F frame r p u (actOf r (laterReading (leadOf t) x)) ≡ effect epl F frame r p (last (trim t)) (actOf r x)
       by (reading.Element e) h =
           ap (λ (f : F). goes [] r (p ++ (f ∷ []))) (ap (λ (x : List ℕ). frame x (shifted (leadOf t) e)) b ∙ line-frame t end e (line-in (trim t) r e h))
-      by reading.Nothing h = refl
+      by reading.Passed h = refl
       by reading.Clear h = refl
       by (reading.Reference x y) h = refl
       by reading.Print h = refl
@@ -85,7 +85,7 @@ module _ (F : Type 0) (frame : List ℕ → LabelElement → F)
 
     -- a line of blanks changes nothing
     empty-run : (u : EplUnit) (t : List ℕ) (r : LabelPosition) (p : List F) → trim t ≡ [] → andThen (does u t r p) goOn ≡ goOn r p
-    empty-run u t r p e = ap (λ (x : Reading). andThen (effect epl F frame r p u (actOf r x)) goOn) (empty-says t r e) ∙ before-nil (goOn r p)
+    empty-run u t r p e = ap (λ (x : LineReading). andThen (effect epl F frame r p u (actOf r x)) goOn) (empty-says t r e) ∙ before-nil (goOn r p)
 
     -- a line kept without its ASCII blanks, or dropped
     kept-run : (u : EplUnit) (t x end : List ℕ) (r : LabelPosition) (p : List F) → bytes u ≡ t ++ end → trim x ≡ trim t

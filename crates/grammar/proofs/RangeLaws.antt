@@ -1,4 +1,5 @@
--- A unit is refused as 13 exactly where one of its numbers (`sizesOf`) leaves 32 bits, and with any other number never; where all fit it does what its role says.
+-- A unit is refused as 13 exactly where one of its numbers (`sizesOf`) leaves 32 bits, and with any other number never;
+-- where all fit it does what its role says.
 -- Assumes nothing.
 use mathlib.Core.Path.{_≡_, refl, sym, ap, _∙_}
 use mathlib.Core.Bool.{Bool, true, false, cond, not, _&&_, _||_, false≢true}
@@ -23,8 +24,8 @@ use Rattle.elements.specs.declared.refusal.Refusal as refusal-of
 use Rattle.elements.specs.declared.refusal.Refusal.the-variants as refusal
 use Rattle.parameters.specs.declared.position.Placed.{Placed}
 use Rattle.parameters.specs.declared.position.Placed.the-variants as placing
-use Rattle.parameters.specs.declared.reading.Reading.{Reading}
-use Rattle.parameters.specs.declared.reading.Reading.the-variants as reading
+use Rattle.parameters.specs.declared.reading.LineReading.{LineReading}
+use Rattle.parameters.specs.declared.reading.LineReading.the-variants as reading
 use Rattle.parameters.specs.FieldValues.{pointOf, fieldsFrom}
 use Rattle.parameters.specs.Position.{placed}
 use Rattle.parameters.specs.Position as position
@@ -107,7 +108,7 @@ place x y r =
     (λ h. inr (inl (unfit a h), simp h))
 
 -- an element where the numbers fit, else 13
-abbrev pub Ranged : List ℤ → Reading → Type 0
+abbrev pub Ranged : List ℤ → LineReading → Type 0
 Ranged zs x = Either zs ((e : LabelElement) × (x ≡ reading.Element e)) (x ≡ reading.Refused refusal.OutOfRange)
 
 pub ranged-yields : (zs : List ℤ) (p : Placed) (f : LabelPosition → LabelElement) → PlacedBy zs p → Ranged zs (position.yields p f)
@@ -152,7 +153,7 @@ scale n h v r =
 ranged-text : (xs ys : List ℤ) (f : TextFields) (d : DataSpan) (s : Scaled) (p : Placed) → PlacedBy xs p → ScaledBy ys s → Ranged (xs ++ ys) (textOf f d s p)
 ranged-text xs ys f d (scaled.Font i) p h (inl k) = both (ranged-yields xs p _ h)
   where
-    both : {x : Reading} → Ranged xs x → Ranged (xs ++ ys) x
+    both : {x : LineReading} → Ranged xs x → Ranged (xs ++ ys) x
     both (inl a) = inl (all-append xs ys (a .0) (k .0), a .1)
     both (inr a) = inr (out-left xs ys (a .0), a .1)
 ranged-text xs ys f d scaled.Outside p h (inl k) = absurd (k .1)
@@ -205,7 +206,7 @@ ranged-box zs t cornered.Outside (inl h) = absurd (h .1)
 ranged-box zs t cornered.Outside (inr h) = inr (h .0, refl)
 
 -- ---- each command that draws or has data, its tests past
-enough : (m k : ℕ) (n : refusal-of.Refusal) (x : Reading) (zs : List ℤ) → leb k m ≡ true → Ranged zs x → Ranged zs (cond (ltb m k) (reading.Refused n) x)
+enough : (m k : ℕ) (n : refusal-of.Refusal) (x : LineReading) (zs : List ℤ) → leb k m ≡ true → Ranged zs x → Ranged zs (cond (ltb m k) (reading.Refused n) x)
 enough m k n x zs e h = rw (le-ltb m k (leb-true k m e)) h
 
 drawn-enough : (k : ℕ) (s : List ℕ) → (atLeast k s && true && true) ≡ true → atLeast k s ≡ true
@@ -302,7 +303,7 @@ y-is (b ∷ s) y =
 abbrev pub Acts : List ℤ → Role → LabelPosition → LabelPosition → EplAct → Type 0
 Acts zs k r q a = Either zs (Does k r q a) (a ≡ outside 13)
 
-acted : (zs : List ℤ) (r : LabelPosition) (x : Reading) → Ranged zs x → Acts zs yields r r (actOf r x)
+acted : (zs : List ℤ) (r : LabelPosition) (x : LineReading) → Ranged zs x → Acts zs yields r r (actOf r x)
 acted zs r x (inl h) = inl (h .0, (h .1 .0, ap (actOf r) (h .1 .1), refl))
 acted zs r x (inr h) = inr (h .0, ap (actOf r) (h .1))
 

@@ -1,5 +1,5 @@
--- The reader and the grammar agree: a line that is not well formed is refused as 01 numbers it, a well-formed one is refused only as 13,
--- and the data of what it yields is its own.
+-- The reader and the grammar agree: a line that is not well formed is refused as 01 numbers it, a well-formed one is
+-- refused only as 13, and the data of what it yields is its own.
 -- Assumes nothing.
 use mathlib.Core.Path.{_≡_}
 use mathlib.Core.Bool.{Bool, true, false}
@@ -17,7 +17,7 @@ use Rattle.elements.specs.declared.refusal.Refusal.{Refusal}
 use Rattle.elements.specs.declared.refusal.Refusal.the-variants as refusal
 use Rattle.elements.specs.Refusals.{numberOf}
 use Rattle.elements.specs.Spans.{spans}
-use Rattle.parameters.specs.declared.reading.Reading.the-variants as reading
+use Rattle.parameters.specs.declared.reading.LineReading.the-variants as reading
 use Rattle.spelling.specs.declared.command.Command.{Command}
 use Rattle.spelling.specs.declared.command.Command.the-variants.{Clear, Reference, Data, Line, Diagonal, Box, Print, Other}
 use Rattle.spelling.specs.Command.{commandOf}

@@ -19,8 +19,8 @@ use Rattle.elements.specs.declared.LabelPosition.{LabelPosition}
 use Rattle.elements.specs.declared.LineColor.{LineColor}
 use Rattle.elements.specs.declared.refusal.Refusal.{Refusal}
 use Rattle.elements.specs.declared.refusal.Refusal.the-variants as refusal
-use Rattle.parameters.specs.declared.reading.Reading.{Reading}
-use Rattle.parameters.specs.declared.reading.Reading.the-variants as reading
+use Rattle.parameters.specs.declared.reading.LineReading.{LineReading}
+use Rattle.parameters.specs.declared.reading.LineReading.the-variants as reading
 use Rattle.parameters.specs.FieldValues.{pointOf, fieldsFrom}
 use Rattle.parameters.specs.Position.{placed}
 use Rattle.parameters.specs.Position as position
@@ -59,15 +59,15 @@ use Rattle.grammar.proofs.LineFaultLaws.{faultless}
 use Rattle.grammar.proofs.SpanLaws.{act-yields}
 
 -- an element, if it is one, of the kind k that stands at the first two of zs
-abbrev Shaped : ℕ → List ℤ → Reading → Type 0
-Shaped k zs reading.Nothing = Unit
+abbrev Shaped : ℕ → List ℤ → LineReading → Type 0
+Shaped k zs reading.Passed = Unit
 Shaped k zs reading.Clear = Unit
 Shaped k zs (reading.Reference x y) = Unit
 Shaped k zs (reading.Element e) = (kindOf e ≡ k) × (placeOf e .x ∷ placeOf e .y ∷ [] ≡ take 2 zs)
 Shaped k zs reading.Print = Unit
 Shaped k zs (reading.Refused n) = Unit
 
-shaped-cond : (b : Bool) (n : Refusal) (k : ℕ) (zs : List ℤ) (x : Reading) → Shaped k zs x → Shaped k zs (cond b (reading.Refused n) x)
+shaped-cond : (b : Bool) (n : Refusal) (k : ℕ) (zs : List ℤ) (x : LineReading) → Shaped k zs x → Shaped k zs (cond b (reading.Refused n) x)
 shaped-cond true n k zs x h = tt
 shaped-cond false n k zs x h = h
 
@@ -210,7 +210,7 @@ shaped-b s d r t =
     (rw l (shaped-bars (barcodeFields s) x y r d)))
 
 -- ---- `b`, by its type
-shaped-qr : (b : Bool) (zs : List ℤ) (x : Reading) → Shaped 0x0e zs x → Shaped 0x0e zs (cond b x (reading.Refused refusal.QrData))
+shaped-qr : (b : Bool) (zs : List ℤ) (x : LineReading) → Shaped 0x0e zs x → Shaped 0x0e zs (cond b x (reading.Refused refusal.QrData))
 shaped-qr true zs x h = h
 shaped-qr false zs x h = tt
 
@@ -254,7 +254,7 @@ shaped-command Box lead t r w = shaped-x (drop 1 t) r
 shaped-command Print lead t r w = tt
 shaped-command Other lead t r w = tt
 
-shape-by : (r : LabelPosition) (u : EplUnit) (x : Reading) (e : LabelElement) → Shaped (kindBy u) (sizesOf r u) x → actOf r x ≡ yield e → Shape r u e
+shape-by : (r : LabelPosition) (u : EplUnit) (x : LineReading) (e : LabelElement) → Shaped (kindBy u) (sizesOf r u) x → actOf r x ≡ yield e → Shape r u e
 shape-by r u x e h a = let k = subst (Shaped (kindBy u) (sizesOf r u)) (act-yields r x e a) h in record { kind = k .0; place = k .1 }
 
 shape-line : (r : LabelPosition) (t : List ℕ) → wellFormed (trim t) ≡ true → Shaped (kindBy (line t)) (sizesOf r (line t)) (readLine t r)

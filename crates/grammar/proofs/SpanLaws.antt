@@ -13,8 +13,8 @@ use Rattle.text.proofs.BoolLaws.{test}
 use Rattle.elements.specs.declared.LabelElement.{LabelElement}
 use Rattle.elements.specs.declared.LabelPosition.{LabelPosition}
 use Rattle.elements.specs.Spans.{AllIn, In}
-use Rattle.parameters.specs.declared.reading.Reading.{Reading}
-use Rattle.parameters.specs.declared.reading.Reading.the-variants as reading
+use Rattle.parameters.specs.declared.reading.LineReading.{LineReading}
+use Rattle.parameters.specs.declared.reading.LineReading.the-variants as reading
 use Rattle.spelling.specs.declared.command.Command.{Command}
 use Rattle.spelling.specs.declared.command.Command.the-variants.{Clear, Reference, Data, Line, Diagonal, Box, Print, Other}
 use Rattle.spelling.specs.declared.command.DataCommand.{DataCommand}
@@ -58,9 +58,9 @@ pub line-in : (t : List ℕ) (r : LabelPosition) (e : LabelElement) → readLine
 unfolding readLine
 line-in t r e h = rw (yielded t r e h .1) (in-command (commandOf (trim t)) (leadOf t) (trim t) r e (length t) h (lead-le t))
 
-pub act-yields : (r : LabelPosition) (x : Reading) (e : LabelElement) → actOf r x ≡ yield e → x ≡ reading.Element e
+pub act-yields : (r : LabelPosition) (x : LineReading) (e : LabelElement) → actOf r x ≡ yield e → x ≡ reading.Element e
 act-yields r (reading.Element f) e h = cc
-act-yields r reading.Nothing e h = cc
+act-yields r reading.Passed e h = cc
 act-yields r reading.Clear e h = cc
 act-yields r (reading.Reference x y) e h = cc
 act-yields r reading.Print e h = cc

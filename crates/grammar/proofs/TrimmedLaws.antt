@@ -1,4 +1,5 @@
--- A line without the ASCII blanks at its ends: it stands whole in the line, and is a command line where the line is one.
+-- A line without the ASCII blanks at its ends: it stands whole in the line, and is a command line where the line is
+-- one.
 -- Assumes nothing.
 use mathlib.Core.Path.{_≡_, sym, ap, _∙_, subst}
 use mathlib.Core.Bool.{Bool, true, false≢true, and-false, or-false}

@@ -30,6 +30,9 @@ ended (b ∷ u) n = (b ∷ u) ++ 10 ∷ n
 pub data Becomes : List EplUnit → List ℕ → Type 0 where
   nothing : Becomes [] []
   -- "every block, copied whole, is followed by one LF"
-  a-block : (bs : List ℕ) (h : Header) (p : List ℕ) (us : List EplUnit) (n : List ℕ) → Becomes us n → Becomes (block bs h p ∷ us) (bytes (block bs h p) ++ 10 ∷ n)
-  a-line : (t u : List ℕ) (us : List EplUnit) (n : List ℕ) → Stripped t u → Becomes us n → Becomes (line t ∷ us) (ended u n)
-  a-last : (t u : List ℕ) (us : List EplUnit) (n : List ℕ) → Stripped t u → Becomes us n → Becomes (last t ∷ us) (ended u n)
+  a-block : (bs : List ℕ) (h : Header) (p : List ℕ) (us : List EplUnit) (n : List ℕ) → Becomes us n
+      → Becomes (block bs h p ∷ us) (bytes (block bs h p) ++ 10 ∷ n)
+  a-line : (t u : List ℕ) (us : List EplUnit) (n : List ℕ) → Stripped t u → Becomes us n
+      → Becomes (line t ∷ us) (ended u n)
+  a-last : (t u : List ℕ) (us : List EplUnit) (n : List ℕ) → Stripped t u → Becomes us n
+      → Becomes (last t ∷ us) (ended u n)

@@ -8,8 +8,8 @@ use Rattle.elements.specs.declared.LabelElement.the-variants as element
 use Rattle.elements.specs.declared.LabelPosition.{LabelPosition}
 use Rattle.elements.specs.Refusals.{numberOf}
 use Rattle.elements.specs.Spans.{shifted}
-use Rattle.parameters.specs.declared.reading.Reading.{Reading}
-use Rattle.parameters.specs.declared.reading.Reading.the-variants as reading
+use Rattle.parameters.specs.declared.reading.LineReading.{LineReading}
+use Rattle.parameters.specs.declared.reading.LineReading.the-variants as reading
 use Rattle.parameters.specs.Position.{placed, yields}
 use Rattle.commands.specs.Line.{readLine}
 use Rattle.whole.specs.Language.{Act, keep, clear, yield, print, outside, Language}
@@ -25,8 +25,8 @@ abbrev pub EplAct : Type 0
 EplAct = Act LabelPosition LabelElement Unit
 
 -- what a reading does at the reference r
-abbrev pub actOf : LabelPosition → Reading → EplAct
-actOf r reading.Nothing = keep r
+abbrev pub actOf : LabelPosition → LineReading → EplAct
+actOf r reading.Passed = keep r
 -- "`N` alone drops pending elements and sets the reference to 0,0"
 actOf r reading.Clear = clear origin
 actOf r (reading.Reference x y) = keep (record { x = x; y = y })
@@ -35,7 +35,7 @@ actOf r reading.Print = print tt
 actOf r (reading.Refused n) = outside (numberOf n)
 
 -- a block: its position with the reference added, its row bytes, its payload as data
-abbrev pub blockSays : List ℕ → Header → List ℕ → LabelPosition → Reading
+abbrev pub blockSays : List ℕ → Header → List ℕ → LabelPosition → LineReading
 blockSays bs h p r =
     yields (placed (number (h .x)) (number (h .y)) r) λ at.
     element.GraphicField

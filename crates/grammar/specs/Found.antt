@@ -47,7 +47,7 @@ headerFields t =
 
 -- what stands first in s, by the graphic that does
 abbrev pub found : List ℕ → Graphic → First EplUnit
-found s graphic.Nothing = judged (textLine s)
+found s graphic.NoGraphic = judged (textLine s)
 found s (graphic.Refused n) = bad (numberOf n)
 found s (graphic.Span g) =
     unit

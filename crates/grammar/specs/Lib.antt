@@ -14,8 +14,6 @@ pub mod Becomes
 pub mod Normal
 -- a line as a reader of one unit answers it
 pub mod Turn
--- 01, "Who causes which number": the answer of a call that fills a lent buffer
-pub mod Filled
 -- 01's words apart from the readers' definitions, which are proved equal to them. "Grammar": "A number field"
 pub mod NumberField
 -- "For demand 3": "Positions and sizes are ..", what a unit does; "Frames": the kind and the place of what it yields

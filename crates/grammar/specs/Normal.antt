@@ -31,7 +31,7 @@ blocks (last t) = []
 
 -- what is taken first: a block where one stands, else a line as text; "A malformed `GW` line is normalised as text"
 abbrev pub chunkBy : List ℕ → Graphic → First EplUnit
-chunkBy s graphic.Nothing = textLine s
+chunkBy s graphic.NoGraphic = textLine s
 chunkBy s (graphic.Refused n) = textLine s
 chunkBy s (graphic.Span g) = found s (graphic.Span g)
 

@@ -1,4 +1,5 @@
--- Laws of graphic blocks: one turn of the loop that passes a header field, the parts of a header, and where a block's data lies.
+-- Laws of graphic blocks: one turn of the loop that passes a header field, the parts of a header, and where a block's
+-- data lies.
 -- Assumes nothing.
 use mathlib.Core.Path.{_≡_, refl, sym, ap, _∙_}
 use mathlib.Core.Bool.{Bool, true, false, not, _&&_, _||_, and-true, true≢false}

@@ -49,7 +49,7 @@ record Cases : Type 0 where
   -- `GW0,0,-2147483649,1,`: width 0
   no-width : gwSpan (gw00 (45 ∷ 50 ∷ 49 ∷ 52 ∷ 55 ∷ 52 ∷ 56 ∷ 51 ∷ 54 ∷ 52 ∷ 57 ∷ 44 ∷ 49 ∷ 44 ∷ [])) ≡ span (pos 0) 20 20
   -- 0b before `GW` is no blank; 20, 09, 0c, 0d are
-  tab : gwSpan (11 ∷ gw (44 ∷ 44 ∷ 44 ∷ 44 ∷ [])) ≡ graphic.Nothing
+  tab : gwSpan (11 ∷ gw (44 ∷ 44 ∷ 44 ∷ 44 ∷ [])) ≡ graphic.NoGraphic
   blanks : gwSpan (32 ∷ 9 ∷ 12 ∷ 13 ∷ gw (44 ∷ 44 ∷ 44 ∷ 44 ∷ [])) ≡ span (pos 0) 10 10
   -- an LF before the fourth comma: 10
   line : gwSpan (gw00 (49 ∷ 44 ∷ 49 ∷ 10 ∷ 44 ∷ 65 ∷ [])) ≡ graphic.Refused refusal.GraphicFields

@@ -107,7 +107,7 @@ gwSpan s =
     (cond (fourClosed (headerOf s))
     (measured (gwNumbers (headerOf s)) (length s - length (payloadOf (headerOf s))) (length (payloadOf (headerOf s))))
     (graphic.Refused refusal.GraphicFields))
-    graphic.Nothing
+    graphic.NoGraphic
 
 -- the element of a graphic at its position with the place of its end, or 13
 abbrev pub graphicPlaced : GwSpan → Placed → Block
@@ -127,13 +127,13 @@ graphicAt g r = graphicPlaced g (placed (g .at .x) (g .at .y) r)
 
 -- the block that a graphic is at a reference: its element with its size, or a refusal
 abbrev pub blockReading : Graphic → LabelPosition → Block
-blockReading graphic.Nothing r = block.Nothing
+blockReading graphic.NoGraphic r = block.NoBlock
 blockReading (graphic.Refused n) r = block.Refused n
 blockReading (graphic.Span g) r = graphicAt g r
 
 -- a block where n bytes more stand before it: only its data moves
 abbrev pub laterBlock : ℕ → Block → Block
-laterBlock n block.Nothing = block.Nothing
+laterBlock n block.NoBlock = block.NoBlock
 laterBlock n (block.Refused k) = block.Refused k
 laterBlock n (block.Element e size) = block.Element (shifted n e) size
 

@@ -1,4 +1,5 @@
-// `GW`: graphic blocks. The header is read field by field, no further than its fourth comma or an LF; the payload is not looked at.
+// `GW`: graphic blocks. The header is read field by field, no further than its fourth comma or an LF; the payload is
+// not looked at.
 ghost use mathlib.Core.Path.{_≡_};
 ghost use mathlib.Core.Bool.{true};
 ghost use Prim.Native.Nat.{_+_, _<_, _≤_};
@@ -76,7 +77,8 @@ pub(crate) fn header_field_len(t: &[u8]) -> usize
     i
 }
 
-// A header field: whether a comma closes it, before an LF or the end. Where one does: its number, or 0, and the place behind the comma.
+// A header field: whether a comma closes it, before an LF or the end. Where one does: its number, or 0, and the place
+// behind the comma.
 pub struct HeaderField {
     pub closed: bool,
     pub value: i32,
@@ -130,7 +132,7 @@ pub struct GwSpan {
 
 // What stands first: no graphic, a fault of one, or a graphic.
 pub enum Graphic {
-    Nothing,
+    NoGraphic,
     Refused(Refusal),
     Span(GwSpan),
 }
@@ -198,20 +200,20 @@ fn opened_gw(rest: &[u8]) -> Graphic
     )
 }
 
-// The graphic that stands first in rest, which goes to the end of input; places are counted from rest's first byte. Small, so that it is inlined: it is
-// asked before every line.
+// The graphic that stands first in rest, which goes to the end of input; places are counted from rest's first byte.
+// Small, so that it is inlined: it is asked before every line.
 pub fn gw_span(rest: &[u8]) -> Graphic
     ensures { λ r. ⌜ r ≡ gwSpan (now (rest .entry)) ⌝ }
 {
     if !opens_gw(rest) {
-        return Graphic::Nothing;
+        return Graphic::NoGraphic;
     }
     opened_gw(rest)
 }
 
 // What a block says: its bytes with its element.
 pub enum Block {
-    Nothing,
+    NoBlock,
     Refused(Refusal),
     Element(LabelElement, usize),
 }
@@ -222,10 +224,10 @@ pub fn read_block(rest: &[u8], at: usize, reference: LabelPosition) -> Block
     ensures { λ r. ⌜ r ≡ laterBlock at (blockReading (gwSpan (now (rest .entry))) reference) ⌝ }
 {
     if !opens_gw(rest) {
-        return Block::Nothing;
+        return Block::NoBlock;
     }
     match gw_span(rest) {
-        Graphic::Nothing => Block::Nothing,
+        Graphic::NoGraphic => Block::NoBlock,
         Graphic::Refused(n) => Block::Refused(n),
         Graphic::Span(g) => graphic_at(g, at, reference),
     }

@@ -1,9 +1,10 @@
--- Demand 1, of functions that meet the contracts: what a refused call leaves, when it is refused as 14 and as 16, and that the end is answered again (the laws that
--- `demand1` of the claims names); and what a call that fills a buffer gives, by what is due to it (`gives`, `denies`). Assumes nothing.
-use mathlib.Core.Path.{_≡_, refl, sym, ap, subst, _∙_}
+-- Demand 1, of functions that meet the contracts: what a refused call leaves, when it is refused as 14 and as 16, and
+-- that the end is answered again (the laws that `demand1` of the claims names); and what a call that fills a buffer
+-- gives, by what is due to it (`gives`, `denies`). Assumes nothing.
+use mathlib.Core.Path.{_≡_, sym, ap, subst, _∙_}
 use mathlib.Core.Bool.{Bool, true, false, cond, _||_}
 use mathlib.Core.List.{List, []}
-use mathlib.Core.Logic.{_⊎_, inl, inr}
+use mathlib.Core.Logic.{inl, inr}
 use Prim.Native.Nat.{ℕ, _≤_, _<_}
 use native.Mathlib.Omega.{arith}
 use lib.Dec.{ltb}
@@ -20,23 +21,21 @@ use Rattle.elements.specs.Refusals.{numberOf}
 use Rattle.elements.specs.Spans.{In}
 use Rattle.elements.specs.Walk.{fresh}
 use Rattle.element_frames.specs.Frame.{frameOf}
-use Rattle.whole.specs.Given.{Due, text, denied, Fills}
-use Rattle.whole.specs.Step.{State, Answer, handing, answer, step, longest}
+use Rattle.elements.specs.Given.{Due, text, denied, Fills, givenOf, longest}
+use Rattle.whole.specs.Step.{State, handing, answer, step}
 use Rattle.whole.specs.Step as theory
-use Rattle.whole.specs.Trace.{Trace, final, Within, Outcome, ending, refusal-of, onAnswer, trace, labelsIn}
-use Rattle.whole.proofs.GivenLaws.{fills-kept, text-written, text-short, refusal-due, within-long}
+use Rattle.whole.specs.Trace.{Trace, final, Within, ending, refusal-of, onAnswer, trace, labelsIn}
+use Rattle.elements.proofs.GivenLaws.{fills-kept, text-written, text-short, refusal-due, within-long}
 use Rattle.whole.proofs.TurnLaws.{step-long, step-past, step-many}
 use Rattle.whole.proofs.TraceLaws.{trace-is}
 use Rattle.whole.proofs.EndLaws.{Says, says-step}
 use Rattle.whole.proofs.EndLaws as end
-use Rattle.grammar.specs.Epl.{acts, epl}
-use Rattle.grammar.specs.Filled.{givenOf}
-use Rattle.grammar.specs.Normal.{normalised}
+use Rattle.grammar.specs.Epl.{epl}
 use Rattle.grammar.proofs.FoundLaws.{reads}
 use Rattle.grammar.proofs.RangeLaws.{outside-only}
 use Rattle.grammar.proofs.FaultLaws.{first-fault, fault-between}
-use Rattle.walk.specs.declared.answer.Step.{Step}
-use Rattle.walk.specs.declared.answer.Step.the-variants.{Element, Clear, Print, End, Refused}
+use Rattle.walk.specs.declared.answer.Answer.{Answer}
+use Rattle.walk.specs.declared.answer.Answer.the-variants.{Element, Clear, Print, End, Refused}
 use Rattle.walk.specs.Steps.{stateOf, answerOf}
 use Rattle.flat.specs.Steps.{walkOf}
 use Rattle.frames.specs.Listing.{outcomeOf, listingDue, dueOf}
@@ -46,7 +45,7 @@ use Rattle.laddertick.specs.Walked.{Outside}
 use Rattle.laddertick.proofs.InsideLaws as inside-laws
 
 -- ---- the theory's steps
-handing-refused : {R E P : Type 0} (g st : State R) (n p : ℕ) (a : Answer R E P) → handing g a ≡ theory.refused n p st → st ≡ g
+handing-refused : {R E P : Type 0} (g st : State R) (n p : ℕ) (a : theory.Answer R E P) → handing g a ≡ theory.refused n p st → st ≡ g
 unfolding handing
 handing-refused g st n p (theory.element e x) h = cc
 handing-refused g st n p (theory.cleared x) h = cc
@@ -94,7 +93,7 @@ outcome-long s h =
     ap (λ (x : Trace LabelElement Unit). ending (final x) (labelsIn epl (List ℕ) frameOf s [] x)) t
 
 -- ---- answers of the code
-end-is : (r : Step) (w : WalkState) → answerOf r ≡ theory.ended (stateOf w) → r ≡ End w
+end-is : (r : Answer) (w : WalkState) → answerOf r ≡ theory.ended (stateOf w) → r ≡ End w
 end-is (Element x e) w h = absurd (let z : _≡_ {A = ℕ} 0 1 = cc in omega arith)
 end-is (Clear x) w h = absurd (let z : _≡_ {A = ℕ} 0 1 = cc in omega arith)
 end-is (Print x p) w h = absurd (let z : _≡_ {A = ℕ} 0 1 = cc in omega arith)
@@ -118,7 +117,7 @@ module _ (d : Due) (l : List ℕ) (c : Filling) where
       record { room = text-written t g; short = text-short t g }
 
 module _ (library : Library) where
-  answers-as : (s : List ℕ) (w : WalkState) {r : Step} → library .step s w ≡ r → step epl s (stateOf w) ≡ answerOf r
+  answers-as : (s : List ℕ) (w : WalkState) {r : Answer} → library .step s w ≡ r → step epl s (stateOf w) ≡ answerOf r
   answers-as s w h = sym (library .steps s w) ∙ ap answerOf h
 
   pub step-hands-back : (s : List ℕ) (w w′ : WalkState) (k : Refusal) (p : ℕ) → library .step s w ≡ Refused w′ k p → w′ ≡ w

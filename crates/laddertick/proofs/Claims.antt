@@ -15,7 +15,7 @@ use Rattle.elements.specs.Refusals.{numberOf}
 use Rattle.elements.specs.Walk.{fresh}
 use Rattle.element_frames.specs.Frame.{be32, head, frameOf}
 use Rattle.element_frames.proofs.FrameLaws.{frame-local}
-use Rattle.whole.specs.Step.{longest}
+use Rattle.elements.specs.Given.{longest}
 use Rattle.whole.specs.Division.{Division}
 use Rattle.whole.specs.Labels.{labels, labelsOf}
 use Rattle.whole.specs.Reach as theory
@@ -27,7 +27,7 @@ use Rattle.whole.proofs.DivisionLaws.{unique}
 use Rattle.whole.proofs.Whole.{whole}
 use Rattle.whole.proofs.Again.{normal-text}
 use Rattle.whole.proofs.TraceLaws.{reach-outcome}
-use Rattle.whole.proofs.GivenLaws.{within-short}
+use Rattle.elements.proofs.GivenLaws.{within-short}
 use Rattle.grammar.specs.Units.{EplUnit}
 use Rattle.grammar.specs.WellFormed.{wellFormed, faultOf}
 use Rattle.grammar.specs.Epl.{origin, epl}
@@ -49,7 +49,7 @@ use Rattle.grammar.proofs.Normalises.{normalises}
 use Rattle.grammar.proofs.BecomesLaws.{becomes}
 use Rattle.grammar.proofs.ReadingLaws.{ill-formed, well-formed-range}
 use Rattle.units.proofs.UnitLaws.{inside}
-use Rattle.walk.specs.declared.answer.Step.{Step}
+use Rattle.walk.specs.declared.answer.Answer.{Answer}
 use Rattle.walk.specs.Steps.{answerOf}
 use Rattle.flat.proofs.FrameLaws.{flat-frame, flat-kind, flat-next}
 use Rattle.frames.specs.Listing.{FramedLabel, listingOf, outcomeOf, listingDue, dueOf}
@@ -92,7 +92,7 @@ module _ (library : Library) where
     abbrev theWalk : Walks epl (List ℕ) frameOf origin s
     theWalk = walks s short
 
-    abbrev byCode : (xs : List Step) × Walked (library .step s) fresh xs (theWalk .final) × (map answerOf xs ≡ theWalk .answers)
+    abbrev byCode : (xs : List Answer) × Walked (library .step s) fresh xs (theWalk .final) × (map answerOf xs ≡ theWalk .answers)
     byCode = walked (library .step) (library .steps) s (theWalk .ends)
 
     code-answered : theory.answered epl (List ℕ) frameOf s [] (theWalk .answers) ≡ answered s [] (byCode .0)
@@ -142,7 +142,7 @@ module _ (library : Library) where
       w : Walks epl (List ℕ) frameOf origin s
       w = theWalk s short
 
-      c : (xs : List Step) × Walked (library .step s) fresh xs (w .final) × (map answerOf xs ≡ w .answers)
+      c : (xs : List Answer) × Walked (library .step s) fresh xs (w .final) × (map answerOf xs ≡ w .answers)
       c = byCode s short
 
       outcome-is : outcomeOf s ≡ ending (w .final) (theory.answered epl (List ℕ) frameOf s [] (w .answers))

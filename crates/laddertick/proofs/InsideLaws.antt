@@ -12,7 +12,8 @@ use Rattle.elements.specs.declared.LabelElement.{LabelElement}
 use Rattle.elements.specs.declared.LabelPosition.{LabelPosition}
 use Rattle.elements.specs.Spans.{later, spans, AllIn, In}
 use Rattle.whole.specs.Language.{First, none, bad, unit, Act, keep, clear, yield, print, outside}
-use Rattle.whole.specs.Step.{State, state, Answer, element, cleared, printed, ended, refused, handing, printing, onAct, onFirst, answerBy, answer, step, longest}
+use Rattle.elements.specs.Given.{longest}
+use Rattle.whole.specs.Step.{State, state, Answer, element, cleared, printed, ended, refused, handing, printing, onAct, onFirst, answerBy, answer, step}
 use Rattle.grammar.specs.Units.{EplUnit, bytes}
 use Rattle.grammar.specs.Epl.{acts, epl}
 use Rattle.grammar.proofs.FoundLaws.{reads}

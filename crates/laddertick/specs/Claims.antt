@@ -1,4 +1,5 @@
--- What is claimed of the entry points `step`, `list` and `normalise`: of any functions that meet their contracts (`Library`), as the code is proved to (`Proved`).
+-- What is claimed of the entry points `step`, `list` and `normalise`: of any functions that meet their contracts
+-- (`Library`), as the code is proved to (`Proved`).
 -- Read first; each name leads to its definition. Quoted words are those of the three demands, or of 01.
 use mathlib.Core.Path.{_≡_}
 use mathlib.Core.Bool.{true, false}
@@ -22,13 +23,15 @@ use Rattle.elements.specs.Refusals.{numberOf}
 use Rattle.elements.specs.Spans.{In}
 use Rattle.elements.specs.Walk.{fresh}
 use Rattle.element_frames.specs.Frame.{head, frameOf}
-use Rattle.parameters.specs.declared.reading.Reading.the-variants as reading
+use Rattle.parameters.specs.declared.reading.LineReading.the-variants as reading
 use Rattle.spelling.specs.declared.command.Command.{Command}
 use Rattle.spelling.specs.Command.{commandOf}
 use Rattle.commands.specs.Line.{readLine}
 use Rattle.whole.specs.Language.{bad, yield, outside}
 use Rattle.whole.specs.Division.{Division}
-use Rattle.whole.specs.Step.{State, Answer, element, cleared, ended, refused, longest}
+use Rattle.elements.specs.Given.{longest}
+use Rattle.whole.specs.Step as theory
+use Rattle.whole.specs.Step.{State, element, cleared, ended, refused}
 use Rattle.whole.specs.Reach.{Final, accepted, refusal}
 use Rattle.whole.specs.Trace.{listed}
 use Rattle.whole.specs.Normal.{each}
@@ -46,8 +49,8 @@ use Rattle.grammar.specs.Faults.{Fault}
 use Rattle.grammar.specs.Divided.{labelsBy, Earliest}
 use Rattle.grammar.specs.Becomes.{Becomes}
 use Rattle.grammar.specs.Normal.{blocks, normalised}
-use Rattle.walk.specs.declared.answer.Step.{Step}
-use Rattle.walk.specs.declared.answer.Step.the-variants.{Element, End, Refused}
+use Rattle.walk.specs.declared.answer.Answer.{Answer}
+use Rattle.walk.specs.declared.answer.Answer.the-variants.{Element, End, Refused}
 use Rattle.walk.specs.Steps.{stateOf, answerOf}
 use Rattle.flat.specs.Steps.{flatOf}
 use Rattle.flat.specs.Frames.{frameFlat, answerFrame, stateIn}
@@ -60,7 +63,8 @@ use Rattle.laddertick.specs.Table.{Holds}
 use Rattle.laddertick.specs.Starred as starred
 use Rattle.laddertick.specs.Distinct as distinct
 
--- "the string divides end to end into graphic blocks and command lines by 01's grammar with every position and size within signed 32 bits", and has these labels
+-- "the string divides end to end into graphic blocks and command lines by 01's grammar with every position and size
+-- within signed 32 bits", and has these labels
 pub record Divides (s : List ℕ) (ls : List FramedLabel) : Type 0 where
   pub units : List EplUnit
   pub division : Division epl s units
@@ -68,51 +72,70 @@ pub record Divides (s : List ℕ) (ls : List FramedLabel) : Type 0 where
   pub range : InRange origin units
   pub found : labelsBy frameOf origin [] units ≡ ls
 
--- demand 1, refusals: a refused call leaves the state and every lent buffer as they came, and has a number of 01. (That memory is touched only inside its
--- ends and that every call returns is what `Proved` says of every call; no entry point has a `requires`.)
+-- demand 1, refusals: a refused call leaves the state and every lent buffer as they came, and has a number of 01. (That
+-- memory is touched only inside its ends and that every call returns is what `Proved` says of every call; no entry
+-- point has a `requires`.)
 pub record Demand1 (library : Library) : Type 0 where
   -- "A refused walk step hands its state back"
-  pub step-hands-back : (s : List ℕ) (w w′ : WalkState) (k : Refusal) (p : ℕ) → library .step s w ≡ Refused w′ k p → w′ ≡ w
+  pub step-hands-back : (s : List ℕ) (w w′ : WalkState) (k : Refusal) (p : ℕ) → library .step s w ≡ Refused w′ k p
+      → w′ ≡ w
   -- "a refused call leaves each lent buffer byte for byte as it came"
-  pub list-keeps : (s l : List ℕ) (k : Refusal) (p : ℕ) → library .list s l .answer ≡ filled.Refused k p → library .list s l .buffer ≡ l
-  pub normalise-keeps : (s l : List ℕ) (k : Refusal) (p : ℕ) → library .normalise s l .answer ≡ filled.Refused k p → library .normalise s l .buffer ≡ l
+  pub list-keeps : (s l : List ℕ) (k : Refusal) (p : ℕ) → library .list s l .answer ≡ filled.Refused k p
+      → library .list s l .buffer ≡ l
+  pub normalise-keeps : (s l : List ℕ) (k : Refusal) (p : ℕ) → library .normalise s l .answer ≡ filled.Refused k p
+      → library .normalise s l .buffer ≡ l
   -- "14 input over 16,777,216 bytes (place 0)", whatever the state and the buffer: "Order: 14, .."
-  pub long-step : (s : List ℕ) (w : WalkState) → longest < length s → answerOf (library .step s w) ≡ refused 14 0 (stateOf w)
+  pub long-step : (s : List ℕ) (w : WalkState) → longest < length s
+      → answerOf (library .step s w) ≡ refused 14 0 (stateOf w)
   pub long-list : (s l : List ℕ) → longest < length s → Denies 14 0 l (library .list s l)
   pub long-normalise : (s l : List ℕ) → longest < length s → Denies 14 0 l (library .normalise s l)
-  -- ".. 16 ..": "walk state with its place past the end, or its pending count above its place (place: as given)", whatever the string says
-  pub outside : (s : List ℕ) (w : WalkState) → length s ≤ longest → Outside s w → answerOf (library .step s w) ≡ refused 16 (w .place) (stateOf w)
+  -- ".. 16 ..": "walk state with its place past the end, or its pending count above its place (place: as given)",
+  -- whatever the string says
+  pub outside : (s : List ℕ) (w : WalkState) → length s ≤ longest → Outside s w
+      → answerOf (library .step s w) ≡ refused 16 (w .place) (stateOf w)
   -- ".. then the earliest refused line": from any other state a refusal is one of 1 to 13
-  pub inside : (s : List ℕ) (w : WalkState) → length s ≤ longest → (Outside s w → ⊥) → (k : Refusal) (p : ℕ) (w′ : WalkState) → library .step s w ≡ Refused w′ k p → (1 ≤ numberOf k) × (numberOf k ≤ 13)
+  pub inside : (s : List ℕ) (w : WalkState) → length s ≤ longest → (Outside s w → ⊥)
+      → (k : Refusal) (p : ℕ) (w′ : WalkState) → library .step s w ≡ Refused w′ k p
+      → (1 ≤ numberOf k) × (numberOf k ≤ 13)
   -- "then the end is answered, again and again", with the same state
   pub ended-again : (s : List ℕ) (w w′ : WalkState) → library .step s w ≡ End w′ → library .step s w′ ≡ End w′
   -- the data that a step answers lies within the input, so that a host which reads it stays inside what it lent
-  pub data-inside : (s : List ℕ) (w w′ : WalkState) (e : LabelElement) → library .step s w ≡ Element w′ e → In (length s) e
+  pub data-inside : (s : List ℕ) (w w′ : WalkState) (e : LabelElement) → library .step s w ≡ Element w′ e
+      → In (length s) e
   pub numbered : (k : Refusal) → (1 ≤ numberOf k) × (numberOf k ≤ 16)
 
--- demand 2: the command forms, from 01's words. The definitions that the code's readers are proved equal to (`commandOf`, `wellFormed`, `first`, `acts`, `fieldOr`)
--- say the same
+-- demand 2: the command forms, from 01's words. The definitions that the code's readers are proved equal to
+-- (`commandOf`, `wellFormed`, `first`, `acts`, `fieldOr`) say the same
 pub record Demand2 : Type 0 where
   -- which command a line spells, which line is not well formed, what is wrong with what stands first
   pub spelled : (t : List ℕ) (c : Command) → (commandOf t ≡ c) ↔ Spells c t
   pub line-faults : (t : List ℕ) (n : ℕ) → ((wellFormed t ≡ false) × (faultOf t ≡ n)) ↔ LineFault t n
   pub faults : (s : List ℕ) (n : ℕ) → (first s ≡ bad n) ↔ Fault s n
   -- a unit that stands does what its command says where its numbers fit at the reference, and is 13 where one does not
-  pub in-range : (r : LabelPosition) (u : EplUnit) (rest : List ℕ) → Stands u rest → AllFit (sizesOf r u) → Does (roleOf u) r (refAfter r u) (acts r u)
-  pub out-of-range : (r : LabelPosition) (u : EplUnit) (rest : List ℕ) → Stands u rest → OneOut (sizesOf r u) → acts r u ≡ outside 13
+  pub in-range : (r : LabelPosition) (u : EplUnit) (rest : List ℕ) → Stands u rest → AllFit (sizesOf r u)
+      → Does (roleOf u) r (refAfter r u) (acts r u)
+  pub out-of-range : (r : LabelPosition) (u : EplUnit) (rest : List ℕ) → Stands u rest → OneOut (sizesOf r u)
+      → acts r u ≡ outside 13
   -- what it yields is of the kind that its command and type have, and stands where the sums say; a frame begins so
-  pub shape : (r : LabelPosition) (u : EplUnit) (rest : List ℕ) (e : LabelElement) → Stands u rest → acts r u ≡ yield e → Shape r u e
+  pub shape : (r : LabelPosition) (u : EplUnit) (rest : List ℕ) (e : LabelElement) → Stands u rest → acts r u ≡ yield e
+      → Shape r u e
   pub begins : (s : List ℕ) (e : LabelElement) → take 9 (frameOf s e) ≡ head (kindOf e) (placeOf e)
   -- "A number field .."
   pub numbers : (d : ℤ) (f : List ℕ) (z : ℤ) → (fieldOr d f ≡ z) ↔ NumberField d f z
-  -- the reader of a line refuses 1 to 9 exactly where the line is not well formed, with 01's number; a well-formed one it refuses only as 13
-  pub ill-formed : (t : List ℕ) (r : LabelPosition) → wellFormed (trim t) ≡ false → (n : Refusal) × (readLine t r ≡ reading.Refused n) × (numberOf n ≡ faultOf (trim t))
-  pub well-formed : (t : List ℕ) (r : LabelPosition) (n : Refusal) → wellFormed (trim t) ≡ true → readLine t r ≡ reading.Refused n → n ≡ OutOfRange
-  -- "Unicode blanks (White_Space: ..)": trimming bytes takes the code points of 01's list off both ends of the decoded text
+  -- the reader of a line refuses 1 to 9 exactly where the line is not well formed, with 01's number; a well-formed one
+  -- it refuses only as 13
+  pub ill-formed : (t : List ℕ) (r : LabelPosition) → wellFormed (trim t) ≡ false
+      → (n : Refusal) × (readLine t r ≡ reading.Refused n) × (numberOf n ≡ faultOf (trim t))
+  pub well-formed : (t : List ℕ) (r : LabelPosition) (n : Refusal) → wellFormed (trim t) ≡ true
+      → readLine t r ≡ reading.Refused n → n ≡ OutOfRange
+  -- "Unicode blanks (White_Space: ..)": trimming bytes takes the code points of 01's list off both ends of the decoded
+  -- text
   pub blanks : (t : List ℕ) → codePoints (trim t) ≡ dropBoth isWhiteSpace (codePoints t)
   -- "A product below 2^53 gives the width exactly"
-  pub widths : (height across : ℕ) → 0 < height → 0 < across → height * across < 2 ^ 53 → widthOf (pos height) (pos across) ≡ ofInt binary64 (pos across)
-  -- 01's starred cases; and a file for each command and type with all its fields distinct, with the lines that `list` writes, character by character
+  pub widths : (height across : ℕ) → 0 < height → 0 < across → height * across < 2 ^ 53
+      → widthOf (pos height) (pos across) ≡ ofInt binary64 (pos across)
+  -- 01's starred cases; and a file for each command and type with all its fields distinct, with the lines that `list`
+  -- writes, character by character
   pub starred : Holds starred.table
   pub distinct : Holds distinct.table
 
@@ -121,12 +144,15 @@ pub record Normalising (library : Library) (s : List ℕ) (ls : List FramedLabel
   -- "the normaliser writes it where the buffer has room, and 15 gives its length where not"
   pub text : List ℕ
   pub gives : (l : List ℕ) → Gives text l (library .normalise s l)
-  -- it is "that under format.rs": unit by unit, a line without the ASCII blanks at its ends, a block copied whole, an LF behind each
+  -- it is "that under format.rs": unit by unit, a line without the ASCII blanks at its ends, a block copied whole, an
+  -- LF behind each
   pub becomes : (us : List EplUnit) → Division epl s us → Becomes us text
   -- "The normalised text of an accepted string of n bytes has at most n + n/6 + 1 bytes"
   pub size : length text ≤ length s + length s / 6 + 1
-  -- "if it too is within the limit it is accepted with the same labels": the steps over it reach the end, and these are the labels answered
-  pub accepted-alike : length text ≤ longest → (xs : List Step) × Walked (library .step text) fresh xs accepted × (answered text [] xs ≡ ls)
+  -- "if it too is within the limit it is accepted with the same labels": the steps over it reach the end, and these are
+  -- the labels answered
+  pub accepted-alike : length text ≤ longest → (xs : List Answer) × Walked (library .step text) fresh xs accepted
+      × (answered text [] xs ≡ ls)
   -- "normalising it again changes nothing"
   pub again : length text ≤ longest → (l : List ℕ) → Gives text l (library .normalise text l)
   -- "accepted with the same labels", by its division
@@ -139,11 +165,12 @@ pub record Demand3 (library : Library) (s : List ℕ) : Type 0 where
   -- "No string divides in two ways"
   pub one-division : (us vs : List EplUnit) → Division epl s us → Division epl s vs → us ≡ vs
   -- the steps reach an end, the end of the string or a refusal, and no other
-  pub answers : List Step
+  pub answers : List Answer
   pub final : Final
   pub reached : Walked (library .step s) fresh answers final
-  pub one-walk : (ys : List Step) (f : Final) → Walked (library .step s) fresh ys f → (ys ≡ answers) × (f ≡ final)
-  -- "the steps reach the end exactly when the string divides end to end .. with every position and size within signed 32 bits"
+  pub one-walk : (ys : List Answer) (f : Final) → Walked (library .step s) fresh ys f → (ys ≡ answers) × (f ≡ final)
+  -- "the steps reach the end exactly when the string divides end to end .. with every position and size within signed
+  -- 32 bits"
   pub accepted-exactly : (final ≡ accepted) ↔ ((us : List EplUnit) × Division epl s us × InRange origin us)
   -- "It is then accepted and the labels answered are those of its division"
   pub divides-accepted : (ls : List FramedLabel) → Divides s ls → (final ≡ accepted) × (answered s [] answers ≡ ls)
@@ -153,15 +180,19 @@ pub record Demand3 (library : Library) (s : List ℕ) : Type 0 where
   -- of the earliest refused unit: at fault as it stands, or with a number outside 32 bits
   pub earliest : (n p : ℕ) → (final ≡ refusal n p) ↔ Earliest s 0 origin n p
   pub normalising : (ls : List FramedLabel) → Divides s ls → Normalising library s ls
-  -- `list` writes the listing of the division's labels, and 15 comes last; or it refuses as the walk does, whatever the buffer
-  pub lists-division : (ls : List FramedLabel) → Divides s ls → (l : List ℕ) → Gives (listingOf ls) l (library .list s l)
+  -- `list` writes the listing of the division's labels, and 15 comes last; or it refuses as the walk does, whatever the
+  -- buffer
+  pub lists-division : (ls : List FramedLabel) → Divides s ls → (l : List ℕ)
+      → Gives (listingOf ls) l (library .list s l)
   pub lists-refusal : (n p : ℕ) → final ≡ refusal n p → (l : List ℕ) → Denies n p l (library .list s l)
 
 -- the flat answers of the static library, a : what `step` answers
 pub record Flat : Type 0 where
-  -- an answer of `laddertick_step` rebuilt to 01's frame from its fields alone: an element's, a print's, a refusal's; and the state for the next step
-  pub frame : (s : List ℕ) (a : Answer LabelPosition LabelElement Unit) → frameFlat s (flatOf a) ≡ answerFrame s a
-  pub next : (a : Answer LabelPosition LabelElement Unit) → stateOf (flatOf a .next) ≡ stateIn a
+  -- an answer of `laddertick_step` rebuilt to 01's frame from its fields alone: an element's, a print's, a refusal's;
+  -- and the state for the next step
+  pub frame : (s : List ℕ) (a : theory.Answer LabelPosition LabelElement Unit)
+      → frameFlat s (flatOf a) ≡ answerFrame s a
+  pub next : (a : theory.Answer LabelPosition LabelElement Unit) → stateOf (flatOf a .next) ≡ stateIn a
   -- an element's kind stands in the answer and in the element
   pub kind : (e : LabelElement) (st : State LabelPosition)
       → flatOf (element e st) .element .kind ≡ flatOf (element e st) .kind
@@ -178,10 +209,12 @@ pub record Claims (library : Library) : Type 0 where
   -- demand 3, whole
   pub demand3 : (s : List ℕ) → length s ≤ longest → Demand3 library s
   -- a graphic block is its bytes, blanks, `GW`, four fields and payload; a line has none
-  pub block-bytes : (bs p : List ℕ) (h : Header) → blocks (block bs h p) ≡ (bs ++ spelt "GW" (h .x ++ spelt "," (h .y ++ spelt "," (h .width ++ spelt "," (h .lines ++ spelt "," p))))) ∷ []
+  pub block-bytes : (bs p : List ℕ) (h : Header) → blocks (block bs h p)
+      ≡ (bs ++ spelt "GW" (h .x ++ spelt "," (h .y ++ spelt "," (h .width ++ spelt "," (h .lines ++ spelt "," p))))) ∷ []
   pub line-blocks : (t : List ℕ) → (blocks (line t) ≡ []) × (blocks (last t) ≡ [])
   pub flat : Flat
-  -- the listing program's buffer always has room: no listing has more than 16 bytes for each byte of its input, and 15 is never printed
+  -- the listing program's buffer always has room: no listing has more than 16 bytes for each byte of its input, and 15
+  -- is never printed
   pub room : (s : List ℕ) (ls : List FramedLabel) → outcomeOf s ≡ listed ls → length (listingOf ls) ≤ 16 * length s
   -- n + n/6 + 1 bytes have room for the normalised text of any string of n bytes, also of one that is refused
   pub normalised-room : (s : List ℕ) → length (normalised s) ≤ length s + length s / 6 + 1

@@ -1,22 +1,21 @@
--- What the contracts of `step`, `list` and `normalise` say, as types; and any functions that meet them, over which the claims are made. That the code meets them
--- is `Proved`.
+-- What the contracts of `step`, `list` and `normalise` say, as types; and any functions that meet them, over which the
+-- claims are made. That the code meets them is `Proved`.
 use mathlib.Core.Path.{_≡_}
 use mathlib.Core.List.{List, _++_}
 use Prim.Native.Nat.{ℕ, _≤_, _<_}
 use lib.ListN.{length, drop}
 use Rattle.elements.specs.declared.filled.Filled.{Filled}
 use Rattle.elements.specs.declared.walk_state.WalkState.{WalkState}
-use Rattle.whole.specs.Given.{bytes, refused, Fills}
+use Rattle.elements.specs.Given.{bytes, refused, Fills, givenOf}
 use Rattle.whole.specs.Step.{step}
 use Rattle.grammar.specs.Epl.{epl}
-use Rattle.grammar.specs.Filled.{givenOf}
-use Rattle.walk.specs.declared.answer.Step.{Step}
+use Rattle.walk.specs.declared.answer.Answer.{Answer}
 use Rattle.walk.specs.Steps.{stateOf, answerOf}
 use Rattle.frames.specs.Listing as listing
 use Rattle.format.specs.Normalise as normal
 
 -- `step` answers r to the input s and the state w
-abbrev pub Stepped : List ℕ → WalkState → Step → Type 0
+abbrev pub Stepped : List ℕ → WalkState → Answer → Type 0
 Stepped s w r = answerOf r ≡ step epl s (stateOf w)
 
 -- `list` answers r to the input s and the buffer l, which becomes n
@@ -34,7 +33,7 @@ pub record Filling : Type 0 where
 
 -- functions of the input and the state, or of the input and the buffer as it came, that meet these contracts
 pub record Library : Type 0 where
-  pub step : List ℕ → WalkState → Step
+  pub step : List ℕ → WalkState → Answer
   pub list : List ℕ → List ℕ → Filling
   pub normalise : List ℕ → List ℕ → Filling
   pub steps : (s : List ℕ) (w : WalkState) → Stepped s w (step s w)
@@ -47,7 +46,8 @@ pub record Library : Type 0 where
 abbrev pub Denies : ℕ → ℕ → List ℕ → Filling → Type 0
 Denies n p l c = (givenOf (c .answer) ≡ refused n p) × (c .buffer ≡ l)
 
--- the text t stands from the start of l on and its length is given, "Output bytes past the written length keep their values"
+-- the text t stands from the start of l on and its length is given, "Output bytes past the written length keep their
+-- values"
 abbrev pub Writes : List ℕ → List ℕ → Filling → Type 0
 Writes t l c = (givenOf (c .answer) ≡ bytes (length t)) × (c .buffer ≡ t ++ drop (length t) l)
 

@@ -1,8 +1,9 @@
--- A file for each command and type, with all its fields set and distinct, and the lines that `list` writes for it, character by character (01, "Frames"), so that no
--- two fields can change places in a reader, a frame and their definitions together; then files that pin what readers and grammar share: defaults, least values, fonts,
--- flags, data, blanks, prints. `distinct` (proofs/Distinct.antt): every row holds.
+-- A file for each command and type, with all its fields set and distinct, and the lines that `list` writes for it,
+-- character by character (01, "Frames"), so that no two fields can change places in a reader, a frame and their
+-- definitions together; then files that pin what readers and grammar share: defaults, least values, fonts, flags, data,
+-- blanks, prints. `distinct` (proofs/Distinct.antt): every row holds.
 use mathlib.Core.Bool.{cond}
-use mathlib.Core.List.{List, [], _∷_, _++_}
+use mathlib.Core.List.{List, [], _∷_}
 use Prim.Native.Char.{code}
 use Prim.Native.Nat.{ℕ}
 use Prim.Native.String.{String}
@@ -16,7 +17,8 @@ abbrev packed : String → List ℕ → List ℕ
 packed string.[] t = t
 packed (string._∷_ c s) t = cond (eqb (code c) 32) (packed s t) (code c ∷ packed s t)
 
--- a command at the reference 100,200 (hexadecimal 64, c8), and the frame of its element; blanks in a frame are for the eye
+-- a command at the reference 100,200 (hexadecimal 64, c8), and the frame of its element; blanks in a frame are for the
+-- eye
 abbrev alone : String → String → Case
 alone c f = lists (spelt "R100,200\n" (spelt c (ascii "\nP1\n"))) (spelt "0000000001\n" (packed f (ascii "\n")))
 
@@ -47,14 +49,16 @@ table =
     ∷ alone "B1,2,2,3,4,14,5,B,\"x\"" "0a 00000065 000000ca 02 00000004 00000005 01 00 400c000000000000 00000001 78"
     ∷ alone "B1,2,2,3C,4,14,5,N,\"x\"" "0a 00000065 000000ca 02 00000004 00000005 00 01 400c000000000000 00000001 78"
     -- "0b PDF417: rotation, row height, security, columns, rows, truncate flag, module width, data"
-    ∷ alone "b1,2,P,o3,y7,s4,l5,r6,t1,x8\"x\"" "0b 00000065 000000ca 03 00000007 00000004 00000005 00000006 01 00000008 00000001 78"
+    ∷ alone "b1,2,P,o3,y7,s4,l5,r6,t1,x8\"x\""
+        "0b 00000065 000000ca 03 00000007 00000004 00000005 00000006 01 00000008 00000001 78"
     -- "0c Aztec: magnification, size, data; 0d Data Matrix: module, columns, rows, data"
     ∷ alone "b1,2,A,d4,e5\"x\"" "0c 00000065 000000ca 00000004 00000005 00000001 78"
     ∷ alone "b1,2,D,h4,c5,r6\"x\"" "0d 00000065 000000ca 00000004 00000005 00000006 00000001 78"
     -- "0e QR: magnification, level letter (1 byte), data; 0f MaxiCode: mode, data"
     ∷ alone "b1,2,Q,s4,eH\"x\"" "0e 00000065 000000ca 00000004 48 00000001 78"
     ∷ alone "b1,2,M,m6\"x\"" "0f 00000065 000000ca 00000006 00000001 78"
-    -- "02 box: width, height, thickness, colour flag (0 black, 1 white); 03 diagonal: width, height, thickness, direction flag"
+    -- "02 box: width, height, thickness, colour flag (0 black, 1 white); 03 diagonal: width, height, thickness,
+    -- direction flag"
     ∷ alone "LO1,2,9,4" "02 00000065 000000ca 00000009 00000004 00000004 00"
     ∷ alone "LW1,2,9,4" "02 00000065 000000ca 00000009 00000004 00000004 01"
     ∷ alone "X14,25,3,1,2" "02 00000065 000000ca 0000000d 00000017 00000003 00"
@@ -73,7 +77,8 @@ table =
     ∷ alone "A0,0,0,0,4,3,N,\"x\"" "01 00000064 000000c8 00 00 4042000000000000 4040000000000000 00000001 78"
     -- "width equals height if the multipliers are equal"
     ∷ alone "A0,0,0,5,3,3,N,\"x\"" "01 00000064 000000c8 00 00 4062000000000000 4062000000000000 00000001 78"
-    -- "else its default: 0; 1 for font, multipliers, narrow bar, thickness, line width and height; 2 wide bar; 10 bar height"
+    -- "else its default: 0; 1 for font, multipliers, narrow bar, thickness, line width and height; 2 wide bar; 10 bar
+    -- height"
     ∷ alone "A,,,,,,N,\"x\"" "01 00000064 000000c8 00 00 4028000000000000 4028000000000000 00000001 78"
     ∷ alone "B,,,3,,,,N,\"x\"" "0a 00000064 000000c8 00 00000001 0000000a 00 00 4000000000000000 00000001 78"
     ∷ alone "LO,,," "02 00000064 000000c8 00000001 00000001 00000001 00"
@@ -109,8 +114,11 @@ table =
     ∷ several " \t\u{c}\rGW1,2,1,2,a\nP1\n" "0000000001\n04 00000001 00000002 00000001 00000002 00000002 610a\n"
     ∷ several "\u{b}GW1,2,1,2,a\nP1\n" ""
     -- "prints if something is pending, and the reference stays"; "nothing is then pending"
-    ∷ several "P1\nR1,2\nLO1,2,9,4\nP1\nP\nLO1,2,9,5\nP2\n" "0000000001\n02 00000002 00000004 00000009 00000004 00000004 00\n0000000001\n02 00000002 00000004 00000009 00000005 00000005 00\n"
+    ∷ several "P1\nR1,2\nLO1,2,9,4\nP1\nP\nLO1,2,9,5\nP2\n"
+        "0000000001\n02 00000002 00000004 00000009 00000004 00000004 00\n0000000001\n02 00000002 00000004 00000009 00000005 00000005 00\n"
     -- "within signed 32 bits, else its default"; "Unicode blanks off", as c2 a0
-    ∷ several "LO2147483648,-2147483649,+9,Â\u{a0}4 \nP1\n" "0000000001\n02 00000000 00000000 00000009 00000004 00000004 00\n"
-    ∷ several "LO2147483647,-2147483648,12O,- 4\nP1\n" "0000000001\n02 7fffffff 80000000 00000001 00000001 00000001 00\n"
+    ∷ several "LO2147483648,-2147483649,+9,Â\u{a0}4 \nP1\n"
+        "0000000001\n02 00000000 00000000 00000009 00000004 00000004 00\n"
+    ∷ several "LO2147483647,-2147483648,12O,- 4\nP1\n"
+        "0000000001\n02 7fffffff 80000000 00000001 00000001 00000001 00\n"
     ∷ []

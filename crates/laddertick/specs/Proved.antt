@@ -1,5 +1,6 @@
--- The code, and the contract that it is proved to meet. `statement` is the toolchain's: whatever the memory, the function's compiled body (its MIR) returns, touches
--- only what it owns or was lent, and what its `ensures` says holds then. `owes`: that clause is the contract as `Contracts` has it.
+-- The code, and the contract that it is proved to meet. `statement` is the toolchain's: whatever the memory, the
+-- function's compiled body (its MIR) returns, touches only what it owns or was lent, and what its `ensures` says holds
+-- then. `owes`: that clause is the contract as `Contracts` has it.
 use mathlib.Core.Path.{_≡_}
 use mathlib.Core.List.{List}
 use Prim.Native.Nat.{ℕ}
@@ -23,7 +24,8 @@ use Rattle.laddertick.specs.Contracts.{Stepped, Listed, Normalised}
 
 -- what is said of the arguments, the result and the arguments at exit by the first is said by the second
 abbrev pub Owes : (n : ℕ) (ps : List (PK n)) (r : RK n) → Out n ps r → Out n ps r → Type 0
-Owes n ps r P Q = (κs : Lfts n) (a : Dens κs ps) (x : resT r κs .Denot) (z : AtExit (endedOf n ps r) κs) → P κs a x z → Q κs a x z
+Owes n ps r P Q = (κs : Lfts n) (a : Dens κs ps) (x : resT r κs .Denot) (z : AtExit (endedOf n ps r) κs) → P κs a x z
+    → Q κs a x z
 
 pub record Proved : Type 2 where
   pub start : {M : Type 1} → start.statement M
@@ -33,5 +35,7 @@ pub record Proved : Type 2 where
   -- a are the arguments, r the result, z the arguments at exit: the input, then the state or the buffer
   pub start-owes : Owes 0 start-kinds.ps start-kinds.r start-reads.Post (λ κs a r z. r ≡ fresh)
   pub step-owes : Owes 1 step-kinds.ps step-kinds.r step-reads.Post (λ κs a r z. Stepped (a .0 .now) (a .1 .0) r)
-  pub list-owes : Owes 2 list-kinds.ps list-kinds.r list-reads.Post (λ κs a r z. Listed (a .0 .now) (a .1 .0 .now) (z .1 .0 .now) r)
-  pub normalise-owes : Owes 2 normalise-kinds.ps normalise-kinds.r normalise-reads.Post (λ κs a r z. Normalised (a .0 .now) (a .1 .0 .now) (z .1 .0 .now) r)
+  pub list-owes : Owes 2 list-kinds.ps list-kinds.r list-reads.Post
+      (λ κs a r z. Listed (a .0 .now) (a .1 .0 .now) (z .1 .0 .now) r)
+  pub normalise-owes : Owes 2 normalise-kinds.ps normalise-kinds.r normalise-reads.Post
+      (λ κs a r z. Normalised (a .0 .now) (a .1 .0 .now) (z .1 .0 .now) r)

@@ -1,4 +1,5 @@
--- The starred cases of 01 ("Corners") and its worked example ("Frames"). `starred` (proofs/Starred.antt): every row holds.
+-- The starred cases of 01 ("Corners") and its worked example ("Frames"). `starred` (proofs/Starred.antt): every row
+-- holds.
 use mathlib.Core.Bool.{Bool, true, false}
 use mathlib.Core.List.{List, [], _∷_}
 use Prim.Native.Nat.{ℕ}
@@ -43,15 +44,18 @@ text h w =
 
 -- a box by its width, height and thickness
 abbrev box : LabelPosition → ℕ → ℕ → ℕ → LabelElement
-box at w h t = GraphicBox (record { position = at; width = pos w; height = pos h; «border_thickness» = pos t; «line_color» = Black })
+box at w h t =
+    GraphicBox (record { position = at; width = pos w; height = pos h; «border_thickness» = pos t; «line_color» = Black })
 
 -- a diagonal of thickness 1 by its width, height and direction
 abbrev diagonal : LabelPosition → ℕ → ℕ → Bool → LabelElement
-diagonal at w h d = DiagonalLine (record { position = at; width = pos w; height = pos h; «border_thickness» = pos 1; «top_to_bottom» = d })
+diagonal at w h d =
+    DiagonalLine (record { position = at; width = pos w; height = pos h; «border_thickness» = pos 1; «top_to_bottom» = d })
 
 -- a graphic at 0,0 by its row bytes, and the place and length of its payload
 abbrev graphic : ℕ → ℕ → ℕ → LabelElement
-graphic w start len = GraphicField (record { position = origin; «row_bytes» = pos w; «data» = record { start = start; len = len } })
+graphic w start len =
+    GraphicField (record { position = origin; «row_bytes» = pos w; «data» = record { start = start; len = len } })
 
 abbrev pub table : List Case
 table =
@@ -63,10 +67,17 @@ table =
     ∷ case "R1,2\nR7,2,3" (ended (state 11 (point 7 0) 0) ∷ [])
     ∷ case "R1,2\nR-1" (ended (state 8 (point 1 2) 0) ∷ [])
     -- "`N` alone drops pending elements and sets the reference to 0,0."
-    ∷ case "R1,2\nLO1,2,3,4\nN\nLO1,2,3,4" (element (box (point 2 4) 3 4 3) (state 15 (point 1 2) 1) ∷ cleared (state 17 origin 0) ∷ alone 26 (box (point 1 2) 3 4 3))
-    -- "`P1,1` isn't a print line.": the end prints both boxes as one label, where `P1` prints the first before the second is read
-    ∷ case "LO1,2,3,4\nP1,1\nLO5,6,7,8\n" (element (box (point 1 2) 3 4 3) (state 10 origin 1) ∷ element (box (point 5 6) 7 8 7) (state 25 origin 2) ∷ closes 25 2)
-    ∷ case "LO1,2,3,4\nP1\nLO5,6,7,8\n" (element (box (point 1 2) 3 4 3) (state 10 origin 1) ∷ printed 1 tt (state 13 origin 0) ∷ alone 23 (box (point 5 6) 7 8 7))
+    ∷ case "R1,2\nLO1,2,3,4\nN\nLO1,2,3,4"
+        (element (box (point 2 4) 3 4 3) (state 15 (point 1 2) 1) ∷ cleared (state 17 origin 0)
+        ∷ alone 26 (box (point 1 2) 3 4 3))
+    -- "`P1,1` isn't a print line.": the end prints both boxes as one label, where `P1` prints the first before the
+    -- second is read
+    ∷ case "LO1,2,3,4\nP1,1\nLO5,6,7,8\n"
+        (element (box (point 1 2) 3 4 3) (state 10 origin 1) ∷ element (box (point 5 6) 7 8 7) (state 25 origin 2)
+        ∷ closes 25 2)
+    ∷ case "LO1,2,3,4\nP1\nLO5,6,7,8\n"
+        (element (box (point 1 2) 3 4 3) (state 10 origin 1) ∷ printed 1 tt (state 13 origin 0)
+        ∷ alone 23 (box (point 5 6) 7 8 7))
     -- "`A1,2,0,1,1,1,,"x"`: refused 1."
     ∷ case "A1,2,0,1,1,1,,\"x\"" (refused 1 0 fresh ∷ [])
     -- "`N` in the seventh field: height 12, width 12. With multipliers 2,1: height 12, width 16."
@@ -87,7 +98,8 @@ table =
     -- "`GW0,0,1,1,` at the end of input: 12. With one LF after it: payload 0a."
     ∷ case "GW0,0,1,1," (refused 12 0 fresh ∷ [])
     ∷ case "GW0,0,1,1,\n" (alone 11 (graphic 1 10 1))
-    -- "` N ` CR LF becomes `N` LF. A malformed `GW` line is normalised as text, so `GW0,0,1,1,` becomes a line that then reads as a block."
+    -- "` N ` CR LF becomes `N` LF. A malformed `GW` line is normalised as text, so `GW0,0,1,1,` becomes a line that
+    -- then reads as a block."
     ∷ normal " N \r\n" "N\n"
     ∷ normal "GW0,0,1,1," "GW0,0,1,1,\n"
     -- "hexadecimal 0b before `GW` stays; one left empty is dropped"
@@ -95,6 +107,8 @@ table =
     -- "every other line, and every block, copied whole, is followed by one LF"
     ∷ normal " GW1,2,1,3,a\n N\n" " GW1,2,1,3,a\n \nN\n"
     -- the worked example: "`R10,20`, `LO5,6,30,4`, `P1`, each with LF"
-    ∷ case "R10,20\nLO5,6,30,4\nP1\n" (element (box (point 15 26) 30 4 4) (state 18 (point 10 20) 1) ∷ printed 1 tt (state 21 (point 10 20) 0) ∷ ended (state 21 (point 10 20) 0) ∷ [])
+    ∷ case "R10,20\nLO5,6,30,4\nP1\n"
+        (element (box (point 15 26) 30 4 4) (state 18 (point 10 20) 1) ∷ printed 1 tt (state 21 (point 10 20) 0)
+        ∷ ended (state 21 (point 10 20) 0) ∷ [])
     ∷ listing "R10,20\nLO5,6,30,4\nP1\n" "0000000001\n020000000f0000001a0000001e000000040000000400\n"
     ∷ []

@@ -1,5 +1,5 @@
--- Tables of computed cases: inputs, each with all that the steps answer from the fresh state on, up to and including the end or the refusal, or with its normalised
--- text, or with the lines that `list` writes. `Holds`: every row does.
+-- Tables of computed cases: inputs, each with all that the steps answer from the fresh state on, up to and including
+-- the end or the refusal, or with its normalised text, or with the lines that `list` writes. `Holds`: every row does.
 use mathlib.Core.Path.{_≡_}
 use mathlib.Core.List.{List, [], _∷_}
 use Prim.Native.Nat.{ℕ, zero, suc}
@@ -7,7 +7,7 @@ use Prim.Native.String.{String}
 use Rattle.elements.specs.declared.LabelElement.{LabelElement}
 use Rattle.elements.specs.declared.LabelPosition.{LabelPosition}
 use Rattle.elements.specs.Walk as walk
-use Rattle.whole.specs.Given.{text}
+use Rattle.elements.specs.Given.{text}
 use Rattle.whole.specs.Step.{State, Answer, element, cleared, printed, ended, refused, step}
 use Rattle.whole.specs.Trace.{left}
 use Rattle.text.specs.Ascii.{ascii}

@@ -8,8 +8,8 @@ use Rattle.elements.specs.declared.walk_state.WalkState.{WalkState}
 use Rattle.elements.specs.Refusals.{numberOf}
 use Rattle.element_frames.specs.Frame.{frameOf}
 use Rattle.whole.specs.Reach.{Final, accepted, refusal}
-use Rattle.walk.specs.declared.answer.Step.{Step}
-use Rattle.walk.specs.declared.answer.Step.the-variants.{Element, Clear, Print, End, Refused}
+use Rattle.walk.specs.declared.answer.Answer.{Answer}
+use Rattle.walk.specs.declared.answer.Answer.the-variants.{Element, Clear, Print, End, Refused}
 use Rattle.frames.specs.Listing.{FramedLabel}
 
 -- after an answer the walk goes on from the state that it returned, or is over
@@ -17,7 +17,7 @@ pub data Next : Type 0 where
   on-from : WalkState → Next
   over : Final → Next
 
-abbrev pub next : Step → Next
+abbrev pub next : Answer → Next
 next (Element w e) = on-from w
 next (Clear w) = on-from w
 next (Print w p) = on-from w
@@ -25,16 +25,18 @@ next (End w) = over accepted
 next (Refused w k p) = over (refusal (numberOf k) p)
 
 -- from a state, these answers and then this end, each step given the state that the last one returned
-pub data Walked (f : WalkState → Step) : WalkState → List Step → Final → Type 0 where
+pub data Walked (f : WalkState → Answer) : WalkState → List Answer → Final → Type 0 where
   stop : {w : WalkState} {z : Final} → next (f w) ≡ over z → Walked f w [] z
-  go-on : {w w′ : WalkState} {xs : List Step} {z : Final} → next (f w) ≡ on-from w′ → Walked f w′ xs z → Walked f w (f w ∷ xs) z
+  go-on : {w w′ : WalkState} {xs : List Answer} {z : Final} → next (f w) ≡ on-from w′ → Walked f w′ xs z
+      → Walked f w (f w ∷ xs) z
 
 -- "walk state with its place past the end, or its pending count above its place"
 abbrev pub Outside : List ℕ → WalkState → Type 0
 Outside s w = (length s < w .place) ⊎ (w .place < w .pending)
 
--- "Labels answered: at each print, what it carries and the elements since the start or the last clear or print", the elements by their frames
-abbrev pub answered : List ℕ → List (List ℕ) → List Step → List FramedLabel
+-- "Labels answered: at each print, what it carries and the elements since the start or the last clear or print", the
+-- elements by their frames
+abbrev pub answered : List ℕ → List (List ℕ) → List Answer → List FramedLabel
 answered s p [] = []
 answered s p (Element w e ∷ xs) = answered s (p ++ (frameOf s e ∷ [])) xs
 answered s p (Clear w ∷ xs) = answered s [] xs

@@ -1,5 +1,5 @@
-// The host's entry points: a walk a step at a time, the listing of a file, and its normalised text, with every type that a host is handed. What is claimed of them
-// stands in specs/Claims.antt.
+// The host's entry points: a walk a step at a time, the listing of a file, and its normalised text, with every type
+// that a host is handed. What is claimed of them stands in specs/Claims.antt.
 pub use elements::Barcode2of5;
 pub use elements::Barcode2of5WithData;
 pub use elements::Barcode39;
@@ -43,5 +43,5 @@ pub use elements::walk_state::start;
 pub use format::normalise::normalise;
 pub use frames::listing::list;
 pub use walk::answer::Printed;
-pub use walk::answer::Step;
+pub use walk::answer::Answer;
 pub use walk::step::step;

@@ -1,10 +1,11 @@
--- The code of the static library's functions, and the contracts that it is proved to meet, as `Proved` of the crate `laddertick` has them for the plain ones: `owes`
--- says what an `ensures` says. a are the arguments, r the result, z the arguments at exit. Assumes nothing.
+-- The code of the static library's functions, and the contracts that it is proved to meet, as `Proved` of the crate
+-- `laddertick` has them for the plain ones: `owes` says what an `ensures` says. a are the arguments, r the result, z
+-- the arguments at exit. Assumes nothing.
 use mathlib.Core.Path.{_≡_}
 use Rattle.elements.specs.Walk.{fresh}
 use Rattle.decoding.specs.Decoding as decoding
-use Rattle.decoding.specs.Written.{givenFlat}
-use Rattle.whole.specs.Given.{Fills}
+use Rattle.flat.specs.Written.{givenFlat}
+use Rattle.elements.specs.Given.{Fills}
 use Rattle.whole.specs.Step as theory
 use Rattle.grammar.specs.Epl.{epl}
 use Rattle.walk.specs.Steps.{stateOf}

@@ -1,24 +1,22 @@
 // The static library that hosts link. Nothing is asked of a caller but that what it lends is its own for the call.
 ghost use mathlib.Core.Path.{_≡_};
-ghost use Rattle.whole.specs.Given.{Fills};
+ghost use Rattle.elements.specs.Given.{Fills};
 ghost use Rattle.whole.specs.Step as theory;
 ghost use Rattle.grammar.specs.Epl.{epl};
 ghost use Rattle.decoding.specs.Decoding as decoding;
-ghost use Rattle.decoding.specs.Written.{givenFlat};
+ghost use Rattle.flat.specs.Written.{givenFlat};
 ghost use Rattle.format.specs.Normalise as normalise;
 ghost use Rattle.frames.specs.Listing as listing;
 ghost use Rattle.elements.specs.Walk.{fresh};
 ghost use Rattle.walk.specs.Steps.{stateOf};
 ghost use Rattle.flat.specs.Steps.{flatOf};
 
-pub mod written;
-
-use crate::written::of_filled;
 use decoding::data::decode;
-use decoding::written::Written;
 use elements::DataSpan;
-use flat::answer::Answer;
+use flat::answer::FlatAnswer;
 use flat::steps::flat_step;
+use flat::written::Written;
+use flat::written::of_filled;
 use laddertick::WalkState;
 use laddertick::list;
 use laddertick::normalise;
@@ -35,18 +33,19 @@ pub extern "C" fn laddertick_start() -> WalkState
 
 // One step from any state: an element, a clear, a print, the end, or a refusal with the state as given.
 #[no_mangle]
-pub extern "C" fn laddertick_step(input: &[u8], walk: WalkState) -> Answer
+pub extern "C" fn laddertick_step(input: &[u8], walk: WalkState) -> FlatAnswer
     ensures { λ r. ⌜ r ≡ flatOf (theory.step epl (now (input .entry)) (stateOf walk)) ⌝ }
 {
     flat_step(step(input, walk))
 }
 
-// What the len bytes at start are decoded to, as far as the input goes, from the start of out; or a refusal that leaves out as it came.
+// What the len bytes at start are decoded to, as far as the input goes, from the start of out; or a refusal that leaves
+// out as it came.
 #[no_mangle]
 pub extern "C" fn laddertick_data(input: &[u8], start: usize, len: usize, out: &mut [u8]) -> Written
     ensures { λ r. ⌜ Fills (now (out .exit)) (now (out .entry)) (decoding.dueOf (now (input .entry)) (record { start = start; len = len })) (givenFlat r) ⌝ }
 {
-    decode(input, DataSpan { start, len }, out)
+    of_filled(decode(input, DataSpan { start, len }, out))
 }
 
 // The listing of input's labels from the start of out, or a refusal that leaves out as it came.

@@ -1,4 +1,5 @@
--- A line without the blanks that it ends with, piece by piece: what is kept of a piece stays, whatever follows it. Assumes nothing.
+-- A line without the blanks that it ends with, piece by piece: what is kept of a piece stays, whatever follows it.
+-- Assumes nothing.
 use mathlib.Core.Path.{_≡_, refl, sym, ap, _∙_}
 use mathlib.Core.Bool.{Bool}
 use mathlib.Core.List.{List, [], _∷_, _++_, reverse, reverse-append, reverse-reverse, append-assoc, append-nil}

@@ -29,8 +29,8 @@ pub record PutsLine (n l s : List ℕ) (at : ℕ) (r : Line) : Type 0 where
   pub put : Put n l at (ended (trimAscii (front notLf s))) (r .to)
   pub size : r .size ≡ lineSize s
 
--- a line t with nothing behind it, put from at on without the blanks at its end: its bytes without its LF, and the place
--- behind what was put
+-- a line t with nothing behind it, put from at on without the blanks at its end: its bytes without its LF, and the
+-- place behind what was put
 pub record PutsPieces (n l t : List ℕ) (at : ℕ) (r : Line) : Type 0 where
   pub put : Put n l at (dropEnd isAsciiBlank (front notLf t)) (r .to)
   pub size : r .size ≡ length (front notLf t)

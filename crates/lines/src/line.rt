@@ -1,5 +1,5 @@
-// A line into a lent buffer, without the ASCII blanks at its ends and with one LF behind it. A long one is written piece by piece as it is looked through, so
-// that it comes from memory once.
+// A line into a lent buffer, without the ASCII blanks at its ends and with one LF behind it. A long one is written
+// piece by piece as it is looked through, so that it comes from memory once.
 ghost use mathlib.Core.Path.{_≡_};
 ghost use Prim.Native.Nat.{_+_, _≤_};
 ghost use lib.ListN.{length, take};
@@ -26,7 +26,8 @@ pub struct Line {
     pub to: usize,
 }
 
-// A line that was looked through: its bytes, its LF among them, and how many are left without it and the blanks at the ends.
+// A line that was looked through: its bytes, its LF among them, and how many are left without it and the blanks at the
+// ends.
 pub struct Kept {
     pub size: usize,
     pub len: usize,
@@ -66,7 +67,8 @@ fn piece(s: &[u8]) -> &[u8]
     first(near, find(near, 10))
 }
 
-// The line that t begins with, without the blanks that it ends with, and no LF. It is written up to `done`; blanks go on from there to `seen`.
+// The line that t begins with, without the blanks that it ends with, and no LF. It is written up to `done`; blanks go
+// on from there to `seen`.
 fn put_pieces(t: &[u8], out: &mut [u8], at: usize) -> Line
     requires { ⌜ at + length (dropEnd isAsciiBlank (front notLf (now t))) ≤ length (now out) ⌝ }
     ensures { λ r. ⌜ PutsPieces (now (out .exit)) (now (out .entry)) (now (t .entry)) at r ⌝ }

@@ -1,12 +1,12 @@
--- What the normaliser's program prints, whatever was read, is the normalised text: its buffer is never too short. Assumes nothing.
+-- What the normaliser's program prints, whatever was read, is the normalised text: its buffer is never too short.
+-- Assumes nothing.
 use mathlib.Core.Path.{_≡_, ap}
 use mathlib.Core.List.{List}
 use Prim.Native.Nat.{ℕ, _+_, _/_, _≤_}
 use native.Mathlib.Omega.{arith}
 use lib.ListN.{length}
-use Rattle.whole.specs.Given.{text}
-use Rattle.whole.specs.Step.{longest}
-use Rattle.whole.proofs.GivenLaws.{within-short}
+use Rattle.elements.specs.Given.{text, longest}
+use Rattle.elements.proofs.GivenLaws.{within-short}
 use Rattle.grammar.specs.Normal.{normalised}
 use Rattle.grammar.proofs.NormalLaws.{length-normalised-le}
 use Rattle.format.specs.Normalise.{dueOf}

@@ -37,7 +37,8 @@ fn show(input: &[u8; READ], n: usize, out: &mut [u8; ROOM]) -> usize
     print_normalised(first(input, n), out)
 }
 
-// The normalised text of input, or the one frame ff of a refusal, from the start of out; nothing where out cannot hold the refusal. Gives its length.
+// The normalised text of input, or the one frame ff of a refusal, from the start of out; nothing where out cannot hold
+// the refusal. Gives its length.
 fn print_normalised(input: &[u8], out: &mut [u8]) -> usize
     ensures { λ r. ⌜ Put (now (out .exit)) (now (out .entry)) 0 (printedOf (now (input .entry)) (length (now (out .entry)))) r ⌝ }
 {

@@ -1,4 +1,5 @@
--- Signed numbers at 32 bits: sums, differences and products in 64, the range test, the magnitude, and reading a number back from its bits.
+-- Signed numbers at 32 bits: sums, differences and products in 64, the range test, the magnitude, and reading a number
+-- back from its bits.
 -- Assumes nothing.
 use mathlib.Core.Path.{_≡_, refl, sym, ap, _∙_}
 use mathlib.Core.Bool.{Bool, true, false, cond}

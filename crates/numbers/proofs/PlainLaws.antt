@@ -1,4 +1,5 @@
--- Digits alone are a number field as they stand: their own trim, no sign; and a run of them read one after the other up to a comma.
+-- Digits alone are a number field as they stand: their own trim, no sign; and a run of them read one after the other up
+-- to a comma.
 -- Assumes nothing.
 use mathlib.Core.Path.{_≡_, refl, ap, _∙_}
 use mathlib.Core.Bool.{true, false}

@@ -1,4 +1,5 @@
--- A number field (01, "Grammar"): "Unicode blanks off, is an optional sign and at least one digit, within signed 32 bits, else its default".
+-- A number field (01, "Grammar"): "Unicode blanks off, is an optional sign and at least one digit, within signed 32
+-- bits, else its default".
 use Prim.Native.Nat.{ℕ, _+_, _-_, _*_}
 use mathlib.Core.Bool.{Bool, true, false, cond}
 use mathlib.Core.List.{List, [], _∷_}

@@ -79,7 +79,8 @@ fn wide_len(two: &[u8], three: &[u8]) -> usize
     0
 }
 
-// The length of the Unicode blank that s starts with, or 0. The longer ones start with no ASCII byte, so one look mostly tells.
+// The length of the Unicode blank that s starts with, or 0. The longer ones start with no ASCII byte, so one look
+// mostly tells.
 fn blank_len(s: &[u8]) -> usize
     ensures { λ r. ⌜ r ≡ sizeOf isBlank (now (s .entry)) ⌝ }
 {

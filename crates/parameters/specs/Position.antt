@@ -8,8 +8,8 @@ use Rattle.elements.specs.declared.LabelElement.{LabelElement}
 use Rattle.elements.specs.declared.refusal.Refusal.the-variants as refusal
 use Rattle.parameters.specs.declared.position.Placed.{Placed}
 use Rattle.parameters.specs.declared.position.Placed.the-variants as placing
-use Rattle.parameters.specs.declared.reading.Reading.{Reading}
-use Rattle.parameters.specs.declared.reading.Reading.the-variants as reading
+use Rattle.parameters.specs.declared.reading.LineReading.{LineReading}
+use Rattle.parameters.specs.declared.reading.LineReading.the-variants as reading
 
 -- go on with a number that has 32 bits, or give the other answer
 abbrev pub ifFits : {A : Type 0} → Checked → A → (ℤ → A) → A
@@ -24,6 +24,6 @@ placed x y r =
     placing.At (record { x = across; y = down })
 
 -- an element at its position, or 13 where it has none
-abbrev pub yields : Placed → (LabelPosition → LabelElement) → Reading
+abbrev pub yields : Placed → (LabelPosition → LabelElement) → LineReading
 yields (placing.At p) e = reading.Element (e p)
 yields placing.Outside e = reading.Refused refusal.OutOfRange

@@ -1,6 +1,7 @@
 // A reader of a parameter part's fields: the part, and the place of the next field.
-// The borrow checker covers no function over a struct that holds a reference. So the work stands in functions of a plain slice and a
-// place, and those of the reader only make it or take it apart. Commands are read through `params`, whose functions have plain parameters.
+// The borrow checker covers no function over a struct that holds a reference. So the work stands in functions of a
+// plain slice and a place, and those of the reader only make it or take it apart. Commands are read through `params`,
+// whose functions have plain parameters.
 ghost use mathlib.Core.Path.{_≡_};
 ghost use Prim.Native.Nat.{_≤_};
 ghost use lib.ListN.{length, drop};

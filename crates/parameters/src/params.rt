@@ -1,4 +1,5 @@
-// The parameter part of a command, field by field: a slice and the place of the next field, so that each byte is looked at once.
+// The parameter part of a command, field by field: a slice and the place of the next field, so that each byte is looked
+// at once.
 // A field reader is made at the place and passed on: to whoever calls these functions, their parameters are plain.
 ghost use mathlib.Core.Path.{_≡_};
 ghost use mathlib.Core.Bool.{true, cond};
@@ -45,7 +46,8 @@ fn digits_from(s: &[u8], at: usize) -> Digits
     Digits { value, end }
 }
 
-// The number in the field at a place, or the default. A few digits, which most fields are, say their value as they stand. Small, so that it is inlined;
+// The number in the field at a place, or the default. A few digits, which most fields are, say their value as they
+// stand. Small, so that it is inlined;
 // the other fields are a call of `field_from`.
 fn digits_or_field(s: &[u8], at: usize, default: i32) -> Numbered
     ensures { λ r. ⌜ r ≡ numberFrom default (now (s .entry)) at ⌝ }
@@ -175,7 +177,8 @@ fn is_field(s: &[u8], b: u8) -> bool
     if t.len() == 1 { t[0] == b } else { false }
 }
 
-// The first field, its blanks off, is exactly the byte b. A last field of one byte, which most are, is told at once. Small, so that it is inlined;
+// The first field, its blanks off, is exactly the byte b. A last field of one byte, which most are, is told at once.
+// Small, so that it is inlined;
 // the other fields are a call of `is_field`.
 pub fn is_exactly(s: &[u8], b: u8) -> bool
     ensures { λ r. ⌜ r ≡ exactlyAt b (now (s .entry)) ⌝ }

@@ -2,9 +2,8 @@
 use elements::LabelElement;
 use elements::refusal::Refusal;
 
-pub enum Reading {
-    // Passed over.
-    Nothing,
+pub enum LineReading {
+    Passed,
     // `N`: what is pending is dropped, the reference becomes 0,0.
     Clear,
     // `R`: the reference point from here on, x and y.

@@ -1,4 +1,5 @@
-// Replays the inputs of `stdin` and prints the listing of each, then a line with a full stop; `stdout` has the oracle's answers (tools/oracle/cases).
+// Replays the inputs of `stdin` and prints the listing of each, then a line with a full stop; `stdout` has the oracle's
+// answers (tools/oracle/cases).
 // Each case is its length, 4 bytes with the most significant first, and its bytes.
 ghost use mathlib.Core.Path.{_≡_};
 ghost use Prim.Native.Nat.{_<_};

@@ -1,4 +1,5 @@
--- Laws of the parts that a byte cuts a text into: lengths, where each part stands, fields one after the other, and equal texts;
+-- Laws of the parts that a byte cuts a text into: lengths, where each part stands, fields one after the other, and
+-- equal texts;
 -- with the steps of the loops that find them. Assumes nothing.
 use mathlib.Core.Path.{_≡_, refl, sym, ap, _∙_}
 use mathlib.Core.Bool.{Bool, true, false, cond, true≢false}

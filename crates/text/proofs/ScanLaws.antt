@@ -1,5 +1,5 @@
--- Laws of a search by places: stretches without b are joined, a minimum over sixty-four places is the first b there (`Least`),
--- and the first b by places is the one that `indexOf` gives.
+-- Laws of a search by places: stretches without b are joined, a minimum over sixty-four places is the first b there
+-- (`Least`), and the first b by places is the one that `indexOf` gives.
 -- Assumes nothing.
 use mathlib.Core.Path.{_≡_, sym, ap, subst, _∙_}
 use mathlib.Core.List.{List, [], _∷_}

@@ -1,4 +1,5 @@
--- Laws of parts and of decoding: parts put together again are the bytes; cuts before a byte that is no 80..bf; ASCII; the length.
+-- Laws of parts and of decoding: parts put together again are the bytes; cuts before a byte that is no 80..bf; ASCII;
+-- the length.
 -- Assumes nothing.
 use mathlib.Core.Path.{_≡_, refl, sym, ap, _∙_}
 use mathlib.Core.Bool.{Bool, true, false, cond}

@@ -1,4 +1,5 @@
--- The blanks' bytes are White_Space: a character of a decoded text is a blank exactly where its code point is in 01's list.
+-- The blanks' bytes are White_Space: a character of a decoded text is a blank exactly where its code point is in 01's
+-- list.
 -- `code-points-trim` is 01's sentence: trimming raw bytes takes White_Space off both ends of the decoded text.
 -- Assumes nothing.
 use mathlib.Core.Path.{_≡_, refl, sym, ap, _∙_}

@@ -1,5 +1,6 @@
--- The well-formed sequences of Unicode's table are the parts that `whole` holds of: every such part stands in the table (`whole-sound`),
--- and every sequence of the table is such a part wherever it stands (`whole-complete`, `parts-whole`). Assumes nothing.
+-- The well-formed sequences of Unicode's table are the parts that `whole` holds of: every such part stands in the table
+-- (`whole-sound`), and every sequence of the table is such a part wherever it stands (`whole-complete`, `parts-whole`).
+-- Assumes nothing.
 use mathlib.Core.Path.{_≡_, refl, sym, ap, _∙_, subst}
 use mathlib.Core.Bool.{true}
 use mathlib.Core.List.{List, [], _∷_, _++_}
@@ -13,7 +14,8 @@ use Rattle.text.specs.Utf8.{within, need, low, high, run, more, parts, w
 use Rattle.text.proofs.BoolLaws.{test, within-true, within-low, within-high}
 use Rattle.text.proofs.Utf8Laws.{more-le, low-ge, high-le, need-ascii, parts-ascii, part-is}
 
--- the well-formed sequences, as the table of Unicode has them: the second byte is bounded by a0 after e0, 9f after ed, 90 after f0, 8f after f4
+-- the well-formed sequences, as the table of Unicode has them: the second byte is bounded by a0 after e0, 9f after ed,
+-- 90 after f0, 8f after f4
 pub data Whole : List ℕ → Type 0 where
   one : (a : ℕ) → a < 128 → Whole (a ∷ [])
   two : (a b : ℕ) → 194 ≤ a → a ≤ 223 → 128 ≤ b → b ≤ 191 → Whole (a ∷ b ∷ [])

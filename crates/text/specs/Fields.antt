@@ -1,4 +1,5 @@
--- Where a byte stands, and the parts that it cuts a text into (01, "Grammar": fields, data between the first and last quote).
+-- Where a byte stands, and the parts that it cuts a text into (01, "Grammar": fields, data between the first and last
+-- quote).
 use mathlib.Core.Path.{_≡_}
 use Prim.Native.Nat.{ℕ, zero, suc, _≤_}
 use mathlib.Core.Bool.{Bool, true, false, cond, _&&_}

@@ -16,8 +16,8 @@ use Rattle.elements.specs.declared.refusal.Refusal.the-variants as refusal
 use Rattle.texts.specs.declared.fonts.Scaled.{Scaled}
 use Rattle.texts.specs.declared.fonts.Scaled.the-variants as scaled
 use Rattle.parameters.specs.declared.position.Placed.{Placed}
-use Rattle.parameters.specs.declared.reading.Reading.{Reading}
-use Rattle.parameters.specs.declared.reading.Reading.the-variants as reading
+use Rattle.parameters.specs.declared.reading.LineReading.{LineReading}
+use Rattle.parameters.specs.declared.reading.LineReading.the-variants as reading
 use Rattle.texts.specs.declared.epl_text.TextFields.{TextFields}
 use Rattle.texts.specs.Font.{fontOf}
 use Rattle.parameters.specs.FieldValues.{sizeOr, pointOf, exactly}
@@ -39,17 +39,17 @@ textFields s =
     }
 
 -- the text in its font at its position, or 13
-abbrev pub textOf : TextFields → DataSpan → Scaled → Placed → Reading
+abbrev pub textOf : TextFields → DataSpan → Scaled → Placed → LineReading
 textOf f d (scaled.Font i) p =
     yields p λ at. element.Text (record { position = at; «reverse_print» = f .scale .reverse; font = i; text = d })
 textOf f d scaled.Outside p = reading.Refused refusal.OutOfRange
 
-unfoldable pub textElement : TextFields → DataSpan → LabelPosition → Reading
+unfoldable pub textElement : TextFields → DataSpan → LabelPosition → LineReading
 textElement f d r =
     textOf f d (fontOf (f .font) (f .scale .«h_mult») (f .scale .«v_mult») (f .rotation))
     (placed (f .at .x) (f .at .y) r)
 
 -- "number at least 7", or 1
-unfoldable pub textReading : List ℕ → DataSpan → LabelPosition → Reading
+unfoldable pub textReading : List ℕ → DataSpan → LabelPosition → LineReading
 textReading s d r =
     cond (ltb (length (fields s)) 7) (reading.Refused refusal.TextFields) (textElement (textFields s) d r)

@@ -15,7 +15,7 @@ use parameters::params::rest_from;
 use parameters::params::size_from;
 use parameters::position::Placed;
 use parameters::position::place;
-use parameters::reading::Reading;
+use parameters::reading::LineReading;
 
 pub struct Scale {
     pub h_mult: i32,
@@ -31,18 +31,18 @@ pub struct TextFields {
 }
 
 // The text at a reference, or 13.
-pub(crate) fn text_element(f: TextFields, span: DataSpan, reference: LabelPosition) -> Reading
+pub(crate) fn text_element(f: TextFields, span: DataSpan, reference: LabelPosition) -> LineReading
     ensures { λ r. ⌜ r ≡ textElement f span reference ⌝ }
 {
     let at = f.at;
     let scale = f.scale;
     let Placed::At(position) = place(at.x, at.y, reference) else {
-        return Reading::Refused(Refusal::OutOfRange);
+        return LineReading::Refused(Refusal::OutOfRange);
     };
     let Scaled::Font(font) = font_info(f.font, scale.h_mult, scale.v_mult, f.rotation) else {
-        return Reading::Refused(Refusal::OutOfRange);
+        return LineReading::Refused(Refusal::OutOfRange);
     };
-    Reading::Element(LabelElement::Text(TextField {
+    LineReading::Element(LabelElement::Text(TextField {
         position,
         reverse_print: scale.reverse,
         font,
@@ -51,7 +51,7 @@ pub(crate) fn text_element(f: TextFields, span: DataSpan, reference: LabelPositi
 }
 
 // A line's parameters and data, at a reference. The fields are counted only where nothing stands behind the sixth.
-pub fn parse_epl_text(params: &[u8], span: DataSpan, reference: LabelPosition) -> Reading
+pub fn parse_epl_text(params: &[u8], span: DataSpan, reference: LabelPosition) -> LineReading
     ensures { λ r. ⌜ r ≡ textReading (now (params .entry)) span reference ⌝ }
 {
     let x = number_from(params, 0, 0);
@@ -61,7 +61,7 @@ pub fn parse_epl_text(params: &[u8], span: DataSpan, reference: LabelPosition) -
     let h_mult = size_from(params, font.next, 1);
     let v_mult = size_from(params, h_mult.next, 1);
     if !reaches(v_mult.next < params.len(), params, 7) {
-        return Reading::Refused(Refusal::TextFields);
+        return LineReading::Refused(Refusal::TextFields);
     }
     let reverse = is_exactly(rest_from(params, v_mult.next), b'R');
     let at = LabelPosition {

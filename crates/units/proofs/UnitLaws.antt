@@ -10,8 +10,8 @@ use Rattle.elements.specs.declared.DataSpan.{DataSpan}
 use Rattle.elements.specs.declared.LabelElement.{LabelElement}
 use Rattle.elements.specs.declared.LabelPosition.{LabelPosition}
 use Rattle.elements.specs.Spans.{spans, AllIn, In}
-use Rattle.parameters.specs.declared.reading.Reading.{Reading}
-use Rattle.parameters.specs.declared.reading.Reading.the-variants as reading
+use Rattle.parameters.specs.declared.reading.LineReading.{LineReading}
+use Rattle.parameters.specs.declared.reading.LineReading.the-variants as reading
 use Rattle.parameters.specs.Reading.{laterReading}
 use Rattle.commands.specs.Line.{readLine}
 use Rattle.whole.specs.Language.{yield}
@@ -35,11 +35,11 @@ line-turn : (size : ℕ) (r : LabelPosition) (t : List ℕ) → did size (actOf 
 line-turn size r t =
     test (wellFormed (trim t))
     (λ e. simp e)
-    (λ e. let n = ill-formed t r e in ap (λ (q : Reading). did size (actOf r q)) (n .1) ∙ ap fault (n .2) ∙ (simp e))
+    (λ e. let n = ill-formed t r e in ap (λ (q : LineReading). did size (actOf r q)) (n .1) ∙ ap fault (n .2) ∙ (simp e))
 
 -- what a line does where it stands at a place
-did-later : (at size : ℕ) (r : LabelPosition) (x : Reading) → did size (actOf r (laterReading at x)) ≡ moved epl at (did size (actOf r x))
-did-later at size r reading.Nothing = refl
+did-later : (at size : ℕ) (r : LabelPosition) (x : LineReading) → did size (actOf r (laterReading at x)) ≡ moved epl at (did size (actOf r x))
+did-later at size r reading.Passed = refl
 did-later at size r reading.Clear = refl
 did-later at size r (reading.Reference x y) = refl
 did-later at size r (reading.Element e) = refl

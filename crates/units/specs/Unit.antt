@@ -4,11 +4,11 @@ use Rattle.elements.specs.declared.LabelPosition.{LabelPosition}
 use Rattle.elements.specs.Refusals.{numberOf}
 use Rattle.whole.specs.Reading as theory
 use Rattle.grammar.specs.Epl.{origin}
-use Rattle.units.specs.declared.unit.UnitReading.{UnitReading}
-use Rattle.units.specs.declared.unit.UnitReading.the-variants as unit
+use Rattle.units.specs.declared.unit.Reading.{Reading}
+use Rattle.units.specs.declared.unit.Reading.the-variants as unit
 
-abbrev pub unitOf : UnitReading → theory.Reading LabelPosition LabelElement Unit
-unitOf unit.Nothing = theory.nothing
+abbrev pub unitOf : Reading → theory.Reading LabelPosition LabelElement Unit
+unitOf unit.End = theory.nothing
 unitOf (unit.Fault k) = theory.fault (numberOf k)
 unitOf (unit.Passed size r) = theory.passes size r
 unitOf (unit.Cleared size) = theory.clears-to size origin

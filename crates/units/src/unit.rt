@@ -1,4 +1,5 @@
-// One unit: what stands first, and what it does at a reference. `GW` is looked for first, so that no LF is searched behind it.
+// One unit: what stands first, and what it does at a reference. `GW` is looked for first, so that no LF is searched
+// behind it.
 ghost use mathlib.Core.Path.{_≡_};
 ghost use Prim.Native.Nat.{_+_, _<_};
 ghost use lib.ListN.{length};
@@ -17,11 +18,11 @@ use elements::LabelPosition;
 use elements::refusal::Refusal;
 use graphics::gw_span::Block;
 use graphics::gw_span::read_block;
-use parameters::reading::Reading;
+use parameters::reading::LineReading;
 
 // What stands first: nothing, a fault, or a unit of that many bytes with what it does.
-pub enum UnitReading {
-    Nothing,
+pub enum Reading {
+    End,
     Fault(Refusal),
     // It is passed, with this reference from here on.
     Passed(usize, LabelPosition),
@@ -31,21 +32,21 @@ pub enum UnitReading {
 }
 
 // A line of so many bytes, by what it says.
-fn line_unit(size: usize, said: Reading, reference: LabelPosition) -> UnitReading
+fn line_unit(size: usize, said: LineReading, reference: LabelPosition) -> Reading
     ensures { λ r. ⌜ unitOf r ≡ did size (actOf reference said) ⌝ }
 {
     match said {
-        Reading::Nothing => UnitReading::Passed(size, reference),
-        Reading::Clear => UnitReading::Cleared(size),
-        Reading::Reference(x, y) => UnitReading::Passed(size, LabelPosition { x, y }),
-        Reading::Element(e) => UnitReading::Element(e, size),
-        Reading::Print => UnitReading::Print(size),
-        Reading::Refused(n) => UnitReading::Fault(n),
+        LineReading::Passed => Reading::Passed(size, reference),
+        LineReading::Clear => Reading::Cleared(size),
+        LineReading::Reference(x, y) => Reading::Passed(size, LabelPosition { x, y }),
+        LineReading::Element(e) => Reading::Element(e, size),
+        LineReading::Print => Reading::Print(size),
+        LineReading::Refused(n) => Reading::Fault(n),
     }
 }
 
 // The line that stands first in rest, itself at the place `at`, whatever it says.
-fn read_text_line(rest: &[u8], at: usize, reference: LabelPosition) -> UnitReading
+fn read_text_line(rest: &[u8], at: usize, reference: LabelPosition) -> Reading
     requires { ⌜ at + length (now rest) < 18446744073709551616 ⌝ }
     ensures { λ r. ⌜ unitOf r ≡ moved epl at (lineTurn (sizeBy (indexOf 10 (now (rest .entry))) (length (now (rest .entry)))) reference (take (indexOf 10 (now (rest .entry))) (now (rest .entry)))) ⌝ }
 {
@@ -55,16 +56,16 @@ fn read_text_line(rest: &[u8], at: usize, reference: LabelPosition) -> UnitReadi
 }
 
 // The unit that stands first in rest, which goes from the place `at` to the end of input.
-pub fn read_unit(rest: &[u8], at: usize, reference: LabelPosition) -> UnitReading
+pub fn read_unit(rest: &[u8], at: usize, reference: LabelPosition) -> Reading
     requires { ⌜ at + length (now rest) < 18446744073709551616 ⌝ }
     ensures { λ r. ⌜ unitOf r ≡ moved epl at (readingOf epl (now (rest .entry)) reference) ⌝ }
 {
     if rest.len() == 0 {
-        return UnitReading::Nothing;
+        return Reading::End;
     }
     match read_block(rest, at, reference) {
-        Block::Nothing => read_text_line(rest, at, reference),
-        Block::Refused(n) => UnitReading::Fault(n),
-        Block::Element(e, size) => UnitReading::Element(e, size),
+        Block::NoBlock => read_text_line(rest, at, reference),
+        Block::Refused(n) => Reading::Fault(n),
+        Block::Element(e, size) => Reading::Element(e, size),
     }
 }

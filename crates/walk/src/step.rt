@@ -4,16 +4,16 @@ ghost use Rattle.whole.specs.Step.{step, printing, ended, state};
 ghost use Rattle.grammar.specs.Epl.{epl};
 ghost use Rattle.walk.specs.Steps.{stateOf, answerOf};
 use crate::answer::Printed;
-use crate::answer::Step;
+use crate::answer::Answer;
 use elements::LabelPosition;
-use elements::refusal::INPUT_MAX;
+use elements::refusal::LONGEST;
 use elements::refusal::Refusal;
 use elements::walk_state::WalkState;
-use units::unit::UnitReading;
+use units::unit::Reading;
 use units::unit::read_unit;
 
 // The answer at the end of the input: what is pending is printed, then the end.
-fn at_end(at: usize, reference: LabelPosition, n: usize) -> Step
+fn at_end(at: usize, reference: LabelPosition, n: usize) -> Answer
     ensures { λ r. ⌜ answerOf r ≡ printing epl tt (ended (state at reference 0)) at reference n ⌝ }
 {
     let st = WalkState {
@@ -22,49 +22,50 @@ fn at_end(at: usize, reference: LabelPosition, n: usize) -> Step
         pending: 0,
     };
     if 0 < n {
-        Step::Print(st, Printed { count: n })
+        Answer::Print(st, Printed { count: n })
     } else {
-        Step::End(st)
+        Answer::End(st)
     }
 }
 
-// The step: an element, a clear, a print, the end, or a refusal with the state as given. What answers nothing is passed within it.
-pub fn step(input: &[u8], st: WalkState) -> Step
+// The step: an element, a clear, a print, the end, or a refusal with the state as given. What answers nothing is passed
+// within it.
+pub fn step(input: &[u8], st: WalkState) -> Answer
     ensures { λ r. ⌜ answerOf r ≡ step epl (now (input .entry)) (stateOf st) ⌝ }
 {
-    if INPUT_MAX < input.len() {
-        return Step::Refused(st, Refusal::InputTooLong, 0);
+    if LONGEST < input.len() {
+        return Answer::Refused(st, Refusal::InputTooLong, 0);
     }
     let mut at = st.place;
     if input.len() < at {
-        return Step::Refused(st, Refusal::StateOutside, at);
+        return Answer::Refused(st, Refusal::StateOutside, at);
     }
     let n = st.pending;
     if at < n {
-        return Step::Refused(st, Refusal::StateOutside, at);
+        return Answer::Refused(st, Refusal::StateOutside, at);
     }
     let mut reference = st.reference;
     loop {
         match read_unit(&input[at..], at, reference) {
-            UnitReading::Nothing => {
+            Reading::End => {
                 return at_end(at, reference, n);
             }
-            UnitReading::Fault(k) => {
-                return Step::Refused(st, k, at);
+            Reading::Fault(k) => {
+                return Answer::Refused(st, k, at);
             }
-            UnitReading::Passed(size, p) => {
+            Reading::Passed(size, p) => {
                 at += size;
                 reference = p;
             }
-            UnitReading::Cleared(size) => {
-                return Step::Clear(WalkState {
+            Reading::Cleared(size) => {
+                return Answer::Clear(WalkState {
                     place: at + size,
                     reference: LabelPosition { x: 0, y: 0 },
                     pending: 0,
                 });
             }
-            UnitReading::Element(e, size) => {
-                return Step::Element(
+            Reading::Element(e, size) => {
+                return Answer::Element(
                     WalkState {
                         place: at + size,
                         reference,
@@ -73,9 +74,9 @@ pub fn step(input: &[u8], st: WalkState) -> Step
                     e,
                 );
             }
-            UnitReading::Print(size) => {
+            Reading::Print(size) => {
                 if 0 < n {
-                    return Step::Print(
+                    return Answer::Print(
                         WalkState {
                             place: at + size,
                             reference,

@@ -1,4 +1,5 @@
--- Normalised text: it divides, with the same labels and blocks, and normalising it again changes nothing. Assumes nothing.
+-- Normalised text: it divides, with the same labels and blocks, and normalising it again changes nothing. Assumes
+-- nothing.
 use mathlib.Core.Path.{_≡_, refl, sym, ap, subst, _∙_}
 use mathlib.Core.List.{List, [], _∷_, _++_, append-assoc}
 use Prim.Native.Nat.{ℕ, _+_, _/_, _≤_}

@@ -1,15 +1,17 @@
--- What a step from within its input says where it says the end, or refuses: the end is said at the end with nothing pending, and is said again and again; a
--- refusal's number is that of what stands first, or of what a unit does. Assumes nothing.
+-- What a step from within its input says where it says the end, or refuses: the end is said at the end with nothing
+-- pending, and is said again and again; a refusal's number is that of what stands first, or of what a unit does.
+-- Assumes nothing.
 use mathlib.Core.Path.{_≡_, refl, sym, ap, subst, _∙_}
-use mathlib.Core.List.{List, [], _++_, append-nil}
+use mathlib.Core.List.{List, [], append-nil}
 use Prim.Native.Nat.{ℕ, zero, suc, _+_, _≤_, _<_}
 use native.Mathlib.Omega.{arith}
 use lib.ListN.{length, length-append, length-drop, drop}
 use Rattle.whole.specs.Language.{First, none, bad, unit, Act, keep, clear, yield, print, outside, Language}
 use Rattle.whole.specs.Division.{Reads}
-use Rattle.whole.specs.Step.{State, state, Answer, element, cleared, printed, ended, refused, handing, printing, onAct, onFirst, answerBy, answer, step, longest}
+use Rattle.elements.specs.Given.{longest}
+use Rattle.whole.specs.Step.{State, state, Answer, element, cleared, printed, ended, refused, handing, printing, onAct, onFirst, answerBy, answer, step}
 use Rattle.whole.specs.Trace.{Within, Goes}
-use Rattle.whole.proofs.StepLaws.{At, step-first}
+use Rattle.whole.proofs.StepLaws.{step-first}
 use Rattle.whole.proofs.TurnLaws.{step-within}
 use Rattle.whole.proofs.TraceLaws.{goes-step}
 

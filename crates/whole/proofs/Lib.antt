@@ -5,4 +5,3 @@ pub mod TurnLaws
 pub mod TraceLaws
 pub mod EndLaws
 pub mod Again
-pub mod GivenLaws

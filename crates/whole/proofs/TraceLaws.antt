@@ -1,4 +1,5 @@
--- The whole walk without its fuel, how each answer moves it on, and that its outcome is that of any walk that reaches an end. Assumes nothing.
+-- The whole walk without its fuel, how each answer moves it on, and that its outcome is that of any walk that reaches
+-- an end. Assumes nothing.
 use mathlib.Core.Path.{_≡_, refl, sym, ap, subst, _∙_}
 use mathlib.Core.Bool.{Bool, true, false, cond, _||_}
 use mathlib.Core.List.{List, [], _∷_, _++_, append-assoc, append-nil}
@@ -10,7 +11,8 @@ use borrow.Author.Tests.{ltb-false}
 use Rattle.whole.specs.Language.{First, none, bad, unit, Act, keep, clear, yield, print, outside, Language}
 use Rattle.whole.specs.Division.{Reads}
 use Rattle.whole.specs.Labels.{Label}
-use Rattle.whole.specs.Step.{State, state, Answer, element, cleared, printed, ended, refused, handing, printing, onAct, onFirst, answerBy, answer, step, longest}
+use Rattle.elements.specs.Given.{longest}
+use Rattle.whole.specs.Step.{State, state, Answer, element, cleared, printed, ended, refused, handing, printing, onAct, onFirst, answerBy, answer, step}
 use Rattle.whole.specs.Reach.{Final, Then, on-from, over, then, Reach, stop, go-on, answered}
 use Rattle.whole.specs.Trace.{Trace, stops, refuses, yields, clears, prints, final, ending, Within, Goes, left, onAnswer, steps, trace, labelsIn, lead, after, outcome}
 

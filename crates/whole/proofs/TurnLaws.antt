@@ -1,4 +1,5 @@
--- A step as code takes it: the tests before its loop, and one turn of the loop, where the reading of what stands at a place decides. Assumes nothing.
+-- A step as code takes it: the tests before its loop, and one turn of the loop, where the reading of what stands at a
+-- place decides. Assumes nothing.
 use mathlib.Core.Path.{_≡_, refl, sym, ap, subst, _∙_}
 use mathlib.Core.List.{List}
 use Prim.Native.Nat.{ℕ, zero, suc, _+_, _-_, _<_, _≤_}
@@ -8,14 +9,16 @@ use lib.Seq.{drop-append-seam, drop-drop, take-all}
 use borrow.Author.Tests.{lt-ltb, le-ltb}
 use Rattle.whole.specs.Language.{First, none, bad, unit, Act, keep, clear, yield, print, outside, Language}
 use Rattle.whole.specs.Division.{Reads}
-use Rattle.whole.specs.Step.{State, state, Answer, element, cleared, printed, ended, refused, handing, printing, onAct, onFirst, answer, step, longest}
+use Rattle.elements.specs.Given.{longest}
+use Rattle.whole.specs.Step.{State, state, Answer, element, cleared, printed, ended, refused, handing, printing, onAct, onFirst, answer, step}
 use Rattle.whole.specs.Reading.{Reading, nothing, fault, passes, clears-to, gives, asks-print, did, reading, readingOf, moved}
 use Rattle.whole.proofs.StepLaws.{answer-first}
 
 module _ (L : Language) where
   open Language L using (U, R, E, P, bytes, closing)
 
-  -- what the loop makes of a reading at its place, g being the state that was given: an answer, or the walk from what follows
+  -- what the loop makes of a reading at its place, g being the state that was given: an answer, or the walk from what
+  -- follows
   abbrev pub onReading : State R → List ℕ → ℕ → R → ℕ → Reading R E P → Answer R E P
   onReading g rest at r n nothing = printing L closing (ended (state at r 0)) at r n
   onReading g rest at r n (fault k) = refused k at g

@@ -1,5 +1,6 @@
 -- The whole walk: it reaches the end exactly where the string divides in range, and then answers the division's labels;
--- otherwise it reaches a refusal. One law, `over-unit`, says how a walk goes on over one unit; the rest is induction. Assumes nothing.
+-- otherwise it reaches a refusal. One law, `over-unit`, says how a walk goes on over one unit; the rest is induction.
+-- Assumes nothing.
 use mathlib.Core.Path.{_≡_, refl, sym, ap, subst, _∙_}
 use mathlib.Core.List.{List, [], _∷_, _++_, append-assoc}
 use mathlib.Core.Logic.{_⊎_, inl, inr}
@@ -10,7 +11,8 @@ use Rattle.whole.specs.Claims.{Local, Walks}
 use Rattle.whole.specs.Language.{First, none, bad, unit, Act, keep, clear, yield, print, outside, Language}
 use Rattle.whole.specs.Division.{Division, done, more, Reads}
 use Rattle.whole.specs.Labels.{Label, Labels, labels, out, flush, Run, goes, leaves, before, andThen, closed, effect, run, labelsOf, Fails, faulty, beyond, later}
-use Rattle.whole.specs.Step.{state, Answer, ended, printing, answer, handing, step, longest}
+use Rattle.elements.specs.Given.{longest}
+use Rattle.whole.specs.Step.{state, Answer, ended, printing, answer, handing, step}
 use Rattle.whole.specs.Reach.{Final, accepted, refusal, on-from, over, then, Reach, stop, go-on, answered}
 use Rattle.whole.proofs.DivisionLaws.{unique}
 use Rattle.whole.proofs.StepLaws.{At, one-walk, reach-as, nonempty, step-at, further, step-first, step-act}

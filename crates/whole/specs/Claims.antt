@@ -1,4 +1,5 @@
--- What a language of units has to show of one unit, and what is then claimed of the whole walk of every string of at most 16,777,216 bytes.
+-- What a language of units has to show of one unit, and what is then claimed of the whole walk of every string of at
+-- most 16,777,216 bytes.
 use mathlib.Core.Path.{_≡_}
 use mathlib.Core.List.{List, [], _++_}
 use Prim.Native.Nat.{ℕ}
@@ -14,7 +15,8 @@ module _ (L : Language) (F : Type 0) (frame : List ℕ → L .E → F) where
 
   -- an element's frame in a string that holds its unit is its frame in the unit alone
   abbrev pub Local : Type 0
-  Local = (r : R) (u : U) (e : E) → act r u ≡ yield e → (pre post : List ℕ) → frame (pre ++ (bytes u ++ post)) (shifted (length pre) e) ≡ frame (bytes u) e
+  Local = (r : R) (u : U) (e : E) → act r u ≡ yield e → (pre post : List ℕ)
+      → frame (pre ++ (bytes u ++ post)) (shifted (length pre) e) ≡ frame (bytes u) e
 
   -- r is the fresh reference
   pub record Walks (r : R) (s : List ℕ) : Type 0 where
@@ -27,7 +29,8 @@ module _ (L : Language) (F : Type 0) (frame : List ℕ → L .E → F) where
     -- and nothing else
     pub one-walk : (ys : List (Answer R E P)) (f : Final) → Reach L s (state 0 r 0) ys f → (ys ≡ answers) × (f ≡ final)
     -- where s divides in range they reach the end and answer the division's labels
-    pub divides→accepted : (us : List U) (ls : List (Label F P)) → Division L s us → labelsOf L F frame r [] us ≡ labels ls → (final ≡ accepted) × (answered L F frame s [] answers ≡ ls)
+    pub divides→accepted : (us : List U) (ls : List (Label F P)) → Division L s us
+        → labelsOf L F frame r [] us ≡ labels ls → (final ≡ accepted) × (answered L F frame s [] answers ≡ ls)
     -- and only there
     pub accepted→divides : final ≡ accepted → InRange L F frame s r []
     -- a refusal is that of the earliest refused unit

@@ -11,11 +11,13 @@ module _ (L : Language) where
   -- `s` divides into the units `us`: each stands before what follows it
   pub data Division : List ℕ → List U → Type 0 where
     done : Division [] []
-    more : {u : U} {us : List U} {s rest : List ℕ} → s ≡ bytes u ++ rest → Stands u rest → Division rest us → Division s (u ∷ us)
+    more : {u : U} {us : List U} {s rest : List ℕ} → s ≡ bytes u ++ rest → Stands u rest → Division rest us
+        → Division s (u ∷ us)
 
   -- `first` finds the unit that stands first, and only such a unit
   pub record Reads : Type 0 where
     pub at-end : first [] ≡ none
     pub finds : (u : U) (rest : List ℕ) → Stands u rest → first (bytes u ++ rest) ≡ unit u rest
-    pub sound : (s : List ℕ) (u : U) (rest : List ℕ) → first s ≡ unit u rest → (s ≡ bytes u ++ rest) × Stands u rest × (0 < length (bytes u))
+    pub sound : (s : List ℕ) (u : U) (rest : List ℕ) → first s ≡ unit u rest
+        → (s ≡ bytes u ++ rest) × Stands u rest × (0 < length (bytes u))
     pub empty : (s : List ℕ) → first s ≡ none → s ≡ []

@@ -1,4 +1,5 @@
--- The labels of a division (01, "For demand 3"): a run over its units, and what the end makes of what is then pending. Elements are compared by their frames.
+-- The labels of a division (01, "For demand 3"): a run over its units, and what the end makes of what is then pending.
+-- Elements are compared by their frames.
 use mathlib.Core.Path.{_≡_}
 use mathlib.Core.List.{List, [], _∷_, _++_}
 use Prim.Native.Nat.{ℕ, _+_}
@@ -44,7 +45,8 @@ closed q (leaves n) = out
 module _ (L : Language) (F : Type 0) (frame : List ℕ → L .E → F) where
   open Language L using (U, R, E, P, bytes, act, closing)
 
-  -- "`R` and `N` set the reference; an element that the unit yields becomes pending; `N` drops what is pending; a print line .. prints it"
+  -- "`R` and `N` set the reference; an element that the unit yields becomes pending; `N` drops what is pending; a print
+  -- line .. prints it"
   abbrev pub effect : R → List F → U → Act R E P → Run R F P
   effect r p u (keep r′) = goes [] r′ p
   effect r p u (clear r′) = goes [] r′ []
@@ -67,9 +69,12 @@ module _ (L : Language) (F : Type 0) (frame : List ℕ → L .E → F) where
     pub found : List (Label F P)
     pub range : labelsOf r p units ≡ labels found
 
-  -- the earliest refused unit from a place on: at fault as it stands, or out of range, every unit before it being neither
+  -- the earliest refused unit from a place on: at fault as it stands, or out of range, every unit before it being
+  -- neither
   pub data Fails : List ℕ → ℕ → R → List F → ℕ → ℕ → Type 0 where
     faulty : {s : List ℕ} {at : ℕ} {r : R} {p : List F} {n : ℕ} → L .first s ≡ bad n → Fails s at r p n at
-    beyond : {u : U} {s rest : List ℕ} {at : ℕ} {r : R} {p : List F} {n : ℕ} → s ≡ bytes u ++ rest → L .Stands u rest → act r u ≡ outside n → Fails s at r p n at
+    beyond : {u : U} {s rest : List ℕ} {at : ℕ} {r : R} {p : List F} {n : ℕ} → s ≡ bytes u ++ rest → L .Stands u rest
+        → act r u ≡ outside n → Fails s at r p n at
     later : {u : U} {s rest : List ℕ} {at : ℕ} {r r′ : R} {p p′ : List F} {ls : List (Label F P)} {n q : ℕ}
-        → s ≡ bytes u ++ rest → L .Stands u rest → effect r p u (act r u) ≡ goes ls r′ p′ → Fails rest (at + length (bytes u)) r′ p′ n q → Fails s at r p n q
+        → s ≡ bytes u ++ rest → L .Stands u rest → effect r p u (act r u) ≡ goes ls r′ p′
+            → Fails rest (at + length (bytes u)) r′ p′ n q → Fails s at r p n q

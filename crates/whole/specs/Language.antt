@@ -1,4 +1,5 @@
--- A language of units: what a unit is, where it stands, what it does (01, "Grammar" and "For demand 3"). EPL's is in the crate `grammar`.
+-- A language of units: what a unit is, where it stands, what it does (01, "Grammar" and "For demand 3"). EPL's is in
+-- the crate `grammar`.
 use mathlib.Core.List.{List}
 use Prim.Native.Nat.{ℕ}
 
@@ -8,7 +9,8 @@ pub data First (U : Type 0) : Type 0 where
   bad : ℕ → First U
   unit : U → List ℕ → First U
 
--- what a unit does at a reference: it sets it, clears, yields an element, prints (and says so much of the print), or has a number outside its range
+-- what a unit does at a reference: it sets it, clears, yields an element, prints (and says so much of the print), or
+-- has a number outside its range
 pub data Act (R E P : Type 0) : Type 0 where
   keep : R → Act R E P
   clear : R → Act R E P
@@ -16,8 +18,9 @@ pub data Act (R E P : Type 0) : Type 0 where
   print : P → Act R E P
   outside : ℕ → Act R E P
 
--- a language of units: references, elements and what a print says; the units' bytes, where they stand, the unit that stands first, what a unit does
--- at a reference, an element moved to a later place, and what is said of the label that the end prints
+-- a language of units: references, elements and what a print says; the units' bytes, where they stand, the unit that
+-- stands first, what a unit does at a reference, an element moved to a later place, and what is said of the label that
+-- the end prints
 pub record Language : Type 1 where
   pub U : Type 0
   pub R : Type 0

@@ -14,7 +14,5 @@ pub mod Reach
 pub mod Trace
 -- 01, "format.rs": normalised text
 pub mod Normal
--- 01, "Who causes which number": what a call that fills a lent buffer gives back
-pub mod Given
 -- what a language of units has to show, and what follows
 pub mod Claims

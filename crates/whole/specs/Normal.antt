@@ -30,12 +30,15 @@ module _ (L : Language) (F : Type 0) (frame : List ℕ → L .E → F) where
     -- how normalising changes one unit, `normal u` being what u becomes
     pub record Normalises (normal : U → List U) : Type 0 where
       pub at-end : normalised [] ≡ []
-      pub at-unit : (u : U) (rest : List ℕ) → Stands u rest → normalised (bytes u ++ rest) ≡ each bytes (normal u) ++ normalised rest
+      pub at-unit : (u : U) (rest : List ℕ) → Stands u rest
+          → normalised (bytes u ++ rest) ≡ each bytes (normal u) ++ normalised rest
       pub solid : (u : U) (rest : List ℕ) → Stands u rest → Solid L (normal u)
-      pub same-run : (u : U) (us : List U) (r : R) (p : List F) → run L F frame r p (normal u ++ us) ≡ run L F frame r p (u ∷ us)
+      pub same-run : (u : U) (us : List U) (r : R) (p : List F)
+          → run L F frame r p (normal u ++ us) ≡ run L F frame r p (u ∷ us)
       pub same-blocks : (u : U) → each blocks (normal u) ≡ blocks u
       pub settled : (u : U) → each normal (normal u) ≡ normal u
-      pub grows : (u : U) (rest : List ℕ) → Stands u rest → Grows (length (bytes u)) (length (each bytes (normal u))) rest
+      pub grows : (u : U) (rest : List ℕ) → Stands u rest
+          → Grows (length (bytes u)) (length (each bytes (normal u))) rest
 
     -- what then holds of a string that divides into us, r being the fresh reference
     pub record Normal (r : R) (s : List ℕ) (us : List U) : Type 0 where

@@ -28,7 +28,8 @@ module _ (L : Language) where
   -- from a state, these answers and then this end, each step given the state that the last one returned
   pub data Reach (s : List ℕ) : State R → List (Answer R E P) → Final → Type 0 where
     stop : {st : State R} {f : Final} → then (step L s st) ≡ over f → Reach s st [] f
-    go-on : {st st′ : State R} {a : Answer R E P} {xs : List (Answer R E P)} {f : Final} → step L s st ≡ a → then a ≡ on-from st′ → Reach s st′ xs f → Reach s st (a ∷ xs) f
+    go-on : {st st′ : State R} {a : Answer R E P} {xs : List (Answer R E P)} {f : Final} → step L s st ≡ a
+        → then a ≡ on-from st′ → Reach s st′ xs f → Reach s st (a ∷ xs) f
 
   -- "Labels answered: at each print, what it carries and the elements since the start or the last clear or print"
   module _ (F : Type 0) (frame : List ℕ → E → F) where

@@ -1,14 +1,12 @@
--- One step of the walk, on a list (01, "Forms that change"): what stands first decides, units that answer nothing are passed.
+-- One step of the walk, on a list (01, "Forms that change"): what stands first decides, units that answer nothing are
+-- passed.
 use mathlib.Core.Bool.{cond, _||_}
 use mathlib.Core.List.{List}
 use Prim.Native.Nat.{ℕ, zero, suc, _+_}
 use lib.Dec.{ltb}
 use lib.ListN.{length, drop}
+use Rattle.elements.specs.Given.{longest}
 use Rattle.whole.specs.Language.{First, none, bad, unit, Act, keep, clear, yield, print, outside, Language}
-
--- "inputs up to 16,777,216 bytes"
-abbrev pub longest : ℕ
-longest = 16777216
 
 -- "The state is the place, the reference and the pending count"
 pub record State (R : Type 0) : Type 0 where
@@ -56,7 +54,8 @@ module _ (L : Language) where
   onFirst go (bad k) at r n = refused k at (state at r n)
   onFirst go (unit u rest) at r n = onAct (go rest) (act r u) u at r n
 
-  -- the first answer from a place, `rest` standing there; each unit passed takes a byte at least, so rest's length bounds them
+  -- the first answer from a place, `rest` standing there; each unit passed takes a byte at least, so rest's length
+  -- bounds them
   abbrev pub answerBy : ℕ → List ℕ → ℕ → R → ℕ → Answer R E P
   answerBy zero rest at r n = refused 0 at (state at r n)
   answerBy (suc k) rest at r n = onFirst (λ rest′ at′ r′. answerBy k rest′ at′ r′ n) (first rest) at r n

@@ -1,11 +1,13 @@
--- The whole walk as one value: what the steps answer from a state, each given the state that the last one returned; and how each answer moves it on.
+-- The whole walk as one value: what the steps answer from a state, each given the state that the last one returned; and
+-- how each answer moves it on.
 use mathlib.Core.Path.{_≡_}
 use mathlib.Core.List.{List, [], _∷_, _++_}
 use Prim.Native.Nat.{ℕ, zero, suc, _+_, _-_, _*_, _≤_, _<_}
 use lib.ListN.{length}
 use Rattle.whole.specs.Language.{Language}
 use Rattle.whole.specs.Labels.{Label}
-use Rattle.whole.specs.Step.{State, Answer, element, cleared, printed, ended, refused, step, longest}
+use Rattle.elements.specs.Given.{longest}
+use Rattle.whole.specs.Step.{State, Answer, element, cleared, printed, ended, refused, step}
 use Rattle.whole.specs.Reach.{Final, accepted, refusal}
 
 -- the answers up to the end or the refusal, without their states
@@ -50,9 +52,11 @@ pub record Within {R : Type 0} (s : List ℕ) (st : State R) : Type 0 where
 
 -- what an answer but a refusal shows: it comes from within the input, and moves on
 abbrev pub Goes : {R E P : Type 0} → List ℕ → State R → Answer R E P → Type 0
-Goes s st (element e st′) = Within s st × (st .place < st′ .place) × (st′ .place ≤ length s) × (st′ .pending ≡ suc (st .pending))
+Goes s st (element e st′) = Within s st × (st .place < st′ .place) × (st′ .place ≤ length s)
+    × (st′ .pending ≡ suc (st .pending))
 Goes s st (cleared st′) = Within s st × (st .place < st′ .place) × (st′ .place ≤ length s) × (st′ .pending ≡ 0)
-Goes s st (printed n q st′) = Within s st × (st .place ≤ st′ .place) × (st′ .place ≤ length s) × (st′ .pending ≡ 0) × (n ≡ st .pending) × (0 < n)
+Goes s st (printed n q st′) = Within s st × (st .place ≤ st′ .place) × (st′ .place ≤ length s) × (st′ .pending ≡ 0)
+    × (n ≡ st .pending) × (0 < n)
 Goes s st (ended st′) = Within s st
 Goes s st (refused n p st′) = Unit
 

@@ -1,4 +1,5 @@
--- `list::show` meets its contract: its first buffer holds one byte more than an input may have, its second 16 for each of them. Assumes nothing.
+-- `list::show` meets its contract: its first buffer holds one byte more than an input may have, its second 16 for each
+-- of them. Assumes nothing.
 use native.Mathlib.Omega.{arith}
 use borrow.Author.Needs.{needs}
 use Rattle.frames.specs.Listing.{dueOf}

@@ -1,4 +1,5 @@
--- `normalise::show` meets its contract: its first buffer holds one byte more than an input may have, its second as many as their normalised text may have.
+-- `normalise::show` meets its contract: its first buffer holds one byte more than an input may have, its second as many
+-- as their normalised text may have.
 -- Assumes nothing.
 use native.Mathlib.Omega.{arith}
 use borrow.Author.Needs.{needs}

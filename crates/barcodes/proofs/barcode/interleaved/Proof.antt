@@ -1,4 +1,5 @@
--- `barcodes::barcode::interleaved` meets its contract: the bars are read back from their bits, and the ratio is that of `bar_ratio`.
+-- `barcodes::barcode::interleaved` meets its contract: the bars are read back from their bits, and the ratio is that of
+-- `bar_ratio`.
 -- Assumes nothing.
 use borrow.Author.Needs.{needs}
 use Rattle.numbers.proofs.IntLaws.{back32}

@@ -1,4 +1,5 @@
--- `barcodes::barcode::parse_epl_barcode` meets its contract: its calls read the eight fields in order, and their number decides.
+-- `barcodes::barcode::parse_epl_barcode` meets its contract: its calls read the eight fields in order, and their number
+-- decides.
 -- Assumes nothing.
 use mathlib.Core.Path.{_≡_, refl, ap, _∙_}
 use mathlib.Core.List.{List}

@@ -1,4 +1,5 @@
--- `barcodes_2d::barcode_2d::pdf417_row_height` meets its contract: a module width is 9 at most, so 4 of it have 32 bits.
+-- `barcodes_2d::barcode_2d::pdf417_row_height` meets its contract: a module width is 9 at most, so 4 of it have 32
+-- bits.
 -- Assumes nothing.
 use mathlib.Core.Path.{_≡_, _∙_}
 use mir.Syntax.{w32}

@@ -1,4 +1,5 @@
--- `barcodes_2d::barcode_2d::typed_2d` meets its contract: the comma that `find` gives parts the type and the parameters.
+-- `barcodes_2d::barcode_2d::typed_2d` meets its contract: the comma that `find` gives parts the type and the
+-- parameters.
 -- Assumes nothing.
 use native.Mathlib.Omega.{arith}
 use lib.ListN.{length-take}

@@ -1,5 +1,5 @@
--- `barcodes_2d::maxicode::auto_maxicode_mode` meets its contract: the place in the decoded data is the decoded length of what stands before
--- the header in the raw data. Assumes nothing.
+-- `barcodes_2d::maxicode::auto_maxicode_mode` meets its contract: the place in the decoded data is the decoded length
+-- of what stands before the header in the raw data. Assumes nothing.
 use mathlib.Core.Path.{_≡_, sym, _∙_}
 use mathlib.Core.Bool.{cond}
 use native.Mathlib.Omega.{arith}

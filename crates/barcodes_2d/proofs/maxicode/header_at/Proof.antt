@@ -1,4 +1,5 @@
--- `barcodes_2d::maxicode::header_at` meets its contract: fewer than 7 bytes are no header, and of 7 or more the first 7 are compared.
+-- `barcodes_2d::maxicode::header_at` meets its contract: fewer than 7 bytes are no header, and of 7 or more the first 7
+-- are compared.
 -- Assumes nothing.
 use mathlib.Core.Path.{sym}
 use borrow.Author.Needs.{needs}

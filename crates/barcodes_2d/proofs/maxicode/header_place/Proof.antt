@@ -1,4 +1,5 @@
--- `barcodes_2d::maxicode::header_place` meets its contract. Invariant: no header stands before i. Measure: s's length less i.
+-- `barcodes_2d::maxicode::header_place` meets its contract. Invariant: no header stands before i. Measure: s's length
+-- less i.
 -- Assumes nothing.
 use mathlib.Core.Path.{_≡_, sym, _∙_}
 use Prim.Native.Nat.{_+_, _-_, _≤_}

@@ -1,5 +1,5 @@
--- `barcodes_2d::maxicode::is_postal` meets its contract. Invariant: what is asked of s is asked of t from byte skip on, with some for a digit
--- that stood before t. Measure: t's length. Assumes nothing.
+-- `barcodes_2d::maxicode::is_postal` meets its contract. Invariant: what is asked of s is asked of t from byte skip on,
+-- with some for a digit that stood before t. Measure: t's length. Assumes nothing.
 use mathlib.Core.Path.{_≡_, sym, _∙_}
 use mathlib.Core.Logic.{⊎-elim}
 use Prim.Native.Nat.{_≤_}

@@ -1,4 +1,5 @@
--- `barcodes_2d::options::digit_run` meets its contract. Invariant: the digits before i and those that follow. Measure: s's length less i.
+-- `barcodes_2d::options::digit_run` meets its contract. Invariant: the digits before i and those that follow. Measure:
+-- s's length less i.
 -- Assumes nothing.
 use mathlib.Core.Path.{_≡_, sym, _∙_}
 use mathlib.Core.List.{_++_}

@@ -1,4 +1,5 @@
--- `barcodes_2d::options::last` meets its contract. Invariant: `Last`, the last p before at lies between from and to. Measure: s's length less at.
+-- `barcodes_2d::options::last` meets its contract. Invariant: `Last`, the last p before at lies between from and to.
+-- Measure: s's length less at.
 -- Assumes nothing.
 use mathlib.Core.Path.{sym, _∙_}
 use mathlib.Core.Logic.{⊎-elim}

@@ -1,4 +1,5 @@
--- `crate::class::all_digits` meets its contract. Invariant: nothing but digits stands before i. Measure: s's length less i.
+-- `crate::class::all_digits` meets its contract. Invariant: nothing but digits stands before i. Measure: s's length
+-- less i.
 -- Assumes nothing.
 use mathlib.Core.Path.{_≡_, sym, _∙_}
 use Prim.Native.Nat.{_-_, _≤_}

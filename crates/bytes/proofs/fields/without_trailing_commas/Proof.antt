@@ -1,4 +1,5 @@
--- `crate::fields::without_trailing_commas` meets its contract. Invariant: nothing but commas stands from n on. Measure: n.
+-- `crate::fields::without_trailing_commas` meets its contract. Invariant: nothing but commas stands from n on. Measure:
+-- n.
 -- Assumes nothing.
 use mathlib.Core.Logic.{⊎-elim}
 use mathlib.Core.Path.{_≡_, _∙_}

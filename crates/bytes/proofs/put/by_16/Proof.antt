@@ -1,4 +1,5 @@
--- `crate::put::by_16` meets its contract. Invariant: where the first run was stored on l, the first i bytes of src now are. The last run may overlap them.
+-- `crate::put::by_16` meets its contract. Invariant: where the first run was stored on l, the first i bytes of src now
+-- are. The last run may overlap them.
 -- Measure: src's length less i. Assumes nothing.
 use mathlib.Core.Path.{_≡_, refl, sym, _∙_}
 use mathlib.Core.List.{List}

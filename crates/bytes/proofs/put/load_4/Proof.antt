@@ -1,4 +1,5 @@
--- `crate::put::load_4` meets its contract. Invariant: the first i bytes of t are those from `from` on. Measure: 4 less i.
+-- `crate::put::load_4` meets its contract. Invariant: the first i bytes of t are those from `from` on. Measure: 4 less
+-- i.
 -- Assumes nothing.
 use mathlib.Core.Path.{_≡_, refl}
 use Prim.Native.Nat.{_-_, _≤_}

@@ -1,4 +1,5 @@
--- `crate::put::store_16` meets its contract. Invariant: what is left of t, stored on out as it is, gives the end's bytes. Measure: 16 less i.
+-- `crate::put::store_16` meets its contract. Invariant: what is left of t, stored on out as it is, gives the end's
+-- bytes. Measure: 16 less i.
 -- Assumes nothing.
 use mathlib.Core.Path.{_≡_, refl, sym, ap, _∙_}
 use Prim.Native.Nat.{ℕ, _+_, _-_, _≤_}

@@ -1,4 +1,5 @@
--- `crate::scan::window` meets its contract. Invariant: k is the first b of the i bytes looked at, or 64. Measure: 64 less i.
+-- `crate::scan::window` meets its contract. Invariant: k is the first b of the i bytes looked at, or 64. Measure: 64
+-- less i.
 -- Assumes nothing.
 use mathlib.Core.Path.{_≡_, refl}
 use mathlib.Core.Logic.{inl, inr, ⊎-elim}

@@ -1,4 +1,5 @@
--- `crate::utf8::decoded_len` meets its contract. Invariant: n is the length of what stands before t, and at most `most`. Measure: t's length.
+-- `crate::utf8::decoded_len` meets its contract. Invariant: n is the length of what stands before t, and at most
+-- `most`. Measure: t's length.
 -- Assumes nothing.
 use mathlib.Core.Path.{_≡_}
 use Prim.Native.Nat.{_+_, _≤_}

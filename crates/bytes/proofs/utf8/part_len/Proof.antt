@@ -1,4 +1,5 @@
--- `crate::utf8::part_len` meets its contract. Invariant: the part has i bytes and those that a run of lo..hi has from i on. Measure: s's length less i.
+-- `crate::utf8::part_len` meets its contract. Invariant: the part has i bytes and those that a run of lo..hi has from i
+-- on. Measure: s's length less i.
 -- Assumes nothing.
 use mathlib.Core.Path.{_≡_, sym, _∙_}
 use Prim.Native.Nat.{_+_, _-_, _<_, _≤_}

@@ -1,4 +1,5 @@
--- `crate::utf8::write_decoded` meets its contract. Invariant: what t is decoded to, stored on out as it is, gives the end's bytes. Measure: t's length.
+-- `crate::utf8::write_decoded` meets its contract. Invariant: what t is decoded to, stored on out as it is, gives the
+-- end's bytes. Measure: t's length.
 -- Assumes nothing.
 use mathlib.Core.Path.{_≡_}
 use Prim.Native.Nat.{_+_, _≤_}

@@ -1,4 +1,5 @@
--- `commands::line::read_quoted` meets its contract: no data, or the command with its data. The first quote's place gives the data and the parameters.
+-- `commands::line::read_quoted` meets its contract: no data, or the command with its data. The first quote's place
+-- gives the data and the parameters.
 -- Assumes nothing.
 use mathlib.Core.Path.{_≡_, sym, ap, _∙_}
 use Prim.Native.Nat.{_+_}

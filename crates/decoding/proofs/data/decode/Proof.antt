@@ -7,9 +7,8 @@ use lib.ListN.{length}
 use lib.Seq.{sets}
 use Rattle.text.specs.Utf8.{decode}
 use Rattle.element_frames.specs.Frame.{part}
-use Rattle.whole.specs.Given.{text}
-use Rattle.whole.specs.Step.{longest}
-use Rattle.whole.proofs.GivenLaws.{within-long, within-short, fills-denied, fills-short, fills-written}
+use Rattle.elements.specs.Given.{text, longest}
+use Rattle.elements.proofs.GivenLaws.{within-long, within-short, fills-denied, fills-short, fills-written}
 use Rattle.decoding.specs.Decoding.{dueOf}
 use Rattle.decoding.proofs.DecodingLaws.{measured}
 use borrow.Author.Needs.{needs}

@@ -1,4 +1,5 @@
--- `draws::draw::boxed` meets its contract: the match tells what was drawn, and its numbers are read back from their bits.
+-- `draws::draw::boxed` meets its contract: the match tells what was drawn, and its numbers are read back from their
+-- bits.
 -- Assumes nothing.
 use mir.Facts.{toZ-ofZ}
 use Rattle.numbers.proofs.IntLaws.{back32}

@@ -1,4 +1,5 @@
--- `element_frames::data::put_decoded_data` meets its contract: the decoded length, for which the room is enough, and then the text.
+-- `element_frames::data::put_decoded_data` meets its contract: the decoded length, for which the room is enough, and
+-- then the text.
 -- Assumes nothing.
 use mathlib.Core.Path.{_≡_, ap}
 use mathlib.Core.List.{List}

@@ -6,7 +6,7 @@ use Prim.Native.Nat.{ℕ}
 use native.Mathlib.Omega.{arith}
 use lib.ListN.{length}
 use Rattle.element_frames.specs.Frame.{be32, sized}
-use Rattle.element_frames.proofs.PutLaws.{then, counted, retold, whole}
+use Rattle.element_frames.proofs.PutLaws.{then, counted, retold}
 use borrow.Author.Needs.{needs}
 use Rattle.element_frames.proofs.data.put_payload.Statement.{statement}
 use Rattle.element_frames.proofs.data.put_payload.Tie as tie

@@ -1,4 +1,5 @@
--- `element_frames::hex::put_bytes` meets its contract. Invariant: the bytes before i are written, up to o. Measure: src's length less i.
+-- `element_frames::hex::put_bytes` meets its contract. Invariant: the bytes before i are written, up to o. Measure:
+-- src's length less i.
 -- Assumes nothing.
 use Prim.Native.Nat.{_-_, _≤_}
 use native.Mathlib.Omega.{arith}

@@ -1,4 +1,5 @@
--- `element_frames::hex::put_decoded` meets its contract. Invariant: what t is decoded to is left to write, from o on. Measure: t's length.
+-- `element_frames::hex::put_decoded` meets its contract. Invariant: what t is decoded to is left to write, from o on.
+-- Measure: t's length.
 -- Assumes nothing.
 use Prim.Native.Nat.{_≤_, _-_}
 use native.Mathlib.Omega.{arith}

@@ -3,7 +3,7 @@ use mathlib.Core.Path.{refl, sym, _∙_}
 use mathlib.Core.List.{List}
 use Prim.Native.Nat.{ℕ}
 use borrow.Author.Tests.{not-true}
-use Rattle.graphics.specs.declared.gw_span.Graphic.the-variants.{Nothing, Refused}
+use Rattle.graphics.specs.declared.gw_span.Graphic.the-variants.{NoGraphic, Refused}
 use Rattle.format.proofs.FirstLaws.{no-block, no-opening, one-block}
 use borrow.Author.Needs.{needs}
 use Rattle.format.proofs.normalise.block_len.Statement.{statement}
@@ -35,7 +35,7 @@ enum-known-g c = search needs
 returns-2 : tie.Need-returns-2
 returns-2 c =
     let g = c .before .before in
-    no-block (src g) Nothing (sym (g .gw-span .ensures) ∙ c .enum-told .given .1) refl
+    no-block (src g) NoGraphic (sym (g .gw-span .ensures) ∙ c .enum-told .given .1) refl
 
 returns-3 : tie.Need-returns-3
 returns-3 c =

@@ -1,4 +1,5 @@
--- `format::normalise::measure` meets its contract. Invariant: what is counted so far, and the text from at on; a byte of input gives two at most.
+-- `format::normalise::measure` meets its contract. Invariant: what is counted so far, and the text from at on; a byte
+-- of input gives two at most.
 -- Measure: the bytes left. Assumes nothing.
 use mathlib.Core.Path.{_≡_, ap}
 use mathlib.Core.Logic.{⊎-elim}

@@ -1,12 +1,12 @@
--- `format::normalise::normalise` meets its contract: 14, 15, or the text is written, which `length-normalised-le` or the measure says has room.
+-- `format::normalise::normalise` meets its contract: 14, 15, or the text is written, which `length-normalised-le` or
+-- the measure says has room.
 -- Assumes nothing.
 use mathlib.Core.Logic.{⊎-elim}
 use Prim.Native.Nat.{_≤_}
 use native.Mathlib.Omega.{arith}
 use lib.ListN.{length}
-use Rattle.whole.specs.Given.{text}
-use Rattle.whole.specs.Step.{longest}
-use Rattle.whole.proofs.GivenLaws.{within-long, within-short, fills-denied, fills-short, fills-written}
+use Rattle.elements.specs.Given.{text, longest}
+use Rattle.elements.proofs.GivenLaws.{within-long, within-short, fills-denied, fills-short, fills-written}
 use Rattle.grammar.specs.Normal.{normalised}
 use Rattle.grammar.proofs.NormalLaws.{length-normalised-le}
 use borrow.Author.Needs.{needs}

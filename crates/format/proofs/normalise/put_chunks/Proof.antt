@@ -1,4 +1,5 @@
--- `format::normalise::put_chunks` meets its contract. Invariant: with the text from at on, the buffer is what it shall be. Measure: the bytes left.
+-- `format::normalise::put_chunks` meets its contract. Invariant: with the text from at on, the buffer is what it shall
+-- be. Measure: the bytes left.
 -- Assumes nothing.
 use mathlib.Core.Path.{_≡_, refl, sym, ap, _∙_}
 use mathlib.Core.List.{List, _++_}

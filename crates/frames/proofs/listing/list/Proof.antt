@@ -1,11 +1,11 @@
--- `frames::listing::list` meets its contract: the first pass says what is due, and only what fits is written. Assumes nothing.
+-- `frames::listing::list` meets its contract: the first pass says what is due, and only what fits is written. Assumes
+-- nothing.
 use mathlib.Core.Path.{_≡_, sym, ap, _∙_}
 use native.Mathlib.Omega.{arith}
 use Rattle.elements.specs.declared.filled.Filled.{Filled}
 use Rattle.elements.specs.declared.filled.Filled.the-variants.{Bytes, Refused}
-use Rattle.whole.specs.Given.{needed}
-use Rattle.whole.proofs.GivenLaws.{needed-denied, fills-denied, fills-short, fills-written}
-use Rattle.grammar.specs.Filled.{givenOf}
+use Rattle.elements.specs.Given.{needed, givenOf}
+use Rattle.elements.proofs.GivenLaws.{needed-denied, fills-denied, fills-short, fills-written}
 use Rattle.frames.specs.Listing.{dueOf}
 use Rattle.frames.proofs.ListingLaws.{due-text, due-length}
 use borrow.Author.Needs.{needs}

@@ -1,4 +1,5 @@
--- `frames::listing::measure` meets its contract. Invariant: what is counted so far, and the rest of the walk. Measure: what is left of it.
+-- `frames::listing::measure` meets its contract. Invariant: what is counted so far, and the rest of the walk. Measure:
+-- what is left of it.
 -- Assumes nothing.
 use mathlib.Core.Path.{_≡_, sym, ap, _∙_}
 use Prim.Native.Nat.{ℕ, _+_, _-_, _*_, _≤_}
@@ -6,15 +7,16 @@ use native.Mathlib.Omega.{arith}
 use lib.ListN.{length}
 use Rattle.elements.specs.Walk.{fresh}
 use Rattle.walk.specs.Steps.{traceOf}
-use Rattle.walk.specs.declared.answer.Step.{Step}
-use Rattle.walk.specs.declared.answer.Step.the-variants.{Element, Clear, Print, End, Refused}
+use Rattle.walk.specs.declared.answer.Answer.{Answer}
+use Rattle.walk.specs.declared.answer.Answer.the-variants.{Element, Clear, Print, End, Refused}
 use Rattle.elements.specs.declared.walk_state.WalkState.{WalkState}
 use Rattle.frames.proofs.ListingLaws.{onStep, Moved, moved-by, frame-len-le, frame-len-is, sizeFrom, size-is, size-by}
 use borrow.Author.Needs.{needs}
 use Rattle.frames.proofs.listing.measure.Statement.{statement}
 use Rattle.frames.proofs.listing.measure.Tie as tie
 
--- an element takes a byte of the input at least, and at most 2 * 4294967295 + 1 bytes of the listing, with 11 of its label's
+-- an element takes a byte of the input at least, and at most 2 * 4294967295 + 1 bytes of the listing, with 11 of its
+-- label's
 abbrev Inv-loop : tie.InvT-loop
 Inv-loop input here₀ total₀ pend₀ here total pend = (sizeFrom input 0 0 (traceOf input fresh) ≡ sizeFrom input total pend (traceOf input here)) × (total + pend + 11 * here .pending ≤ 8589934602 * here .place)
 
@@ -22,14 +24,14 @@ abbrev μ-loop : tie.MeasureT-loop
 μ-loop input here₀ total₀ pend₀ here total pend = 2 * (length input - here .place) + here .pending
 
 -- what is counted so far and the rest of the walk, by the answer that the loop matched
-counted : (d : tie.After-step Inv-loop μ-loop) (q : Step) → d .step .result ≡ q
+counted : (d : tie.After-step Inv-loop μ-loop) (q : Answer) → d .step .result ≡ q
     → sizeFrom (d .before .before .before .before .args .input .now) 0 0 (traceOf (d .before .before .before .before .args .input .now) fresh)
     ≡ sizeFrom (d .before .before .before .before .args .input .now) (d .before .loop .total) (d .before .loop .pend) (onStep (d .before .before .before .before .args .input .now) q)
 counted d q k =
     let l = d .before .loop in
     l .inv .0 ∙ size-by (d .before .before .before .before .args .input .now) (l .here) (d .step .result) q (d .step .ensures) k (l .total) (l .pend)
 
-moved : (d : tie.After-step Inv-loop μ-loop) (q : Step) → d .step .result ≡ q → Moved (d .before .before .before .before .args .input .now) (d .before .loop .here) q
+moved : (d : tie.After-step Inv-loop μ-loop) (q : Answer) → d .step .result ≡ q → Moved (d .before .before .before .before .args .input .now) (d .before .loop .here) q
 moved d q k = moved-by (d .before .before .before .before .args .input .now) (d .before .loop .here) (d .step .result) q (d .step .ensures) k
 
 -- at an element, with the length of its frame

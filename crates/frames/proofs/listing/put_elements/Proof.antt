@@ -1,5 +1,5 @@
--- `frames::listing::put_elements` meets its contract. Invariant: with the frames that the walk still begins with, the buffer is what it
--- shall be. Measure: what is left of the walk. Assumes nothing.
+-- `frames::listing::put_elements` meets its contract. Invariant: with the frames that the walk still begins with, the
+-- buffer is what it shall be. Measure: what is left of the walk. Assumes nothing.
 use mathlib.Core.Path.{_≡_, refl, _∙_}
 use mathlib.Core.List.{List}
 use Prim.Native.Nat.{ℕ, _+_, _-_, _*_}
@@ -10,8 +10,8 @@ use Rattle.whole.specs.Trace.{lead}
 use Rattle.grammar.specs.Epl.{epl}
 use Rattle.element_frames.specs.Frame.{frameOf}
 use Rattle.element_frames.specs.Hex.{lineOf}
-use Rattle.walk.specs.declared.answer.Step.{Step}
-use Rattle.walk.specs.declared.answer.Step.the-variants.{Element}
+use Rattle.walk.specs.declared.answer.Answer.{Answer}
+use Rattle.walk.specs.declared.answer.Answer.the-variants.{Element}
 use Rattle.frames.specs.Listing.{linesOf, frontFrames}
 use Rattle.frames.proofs.ListingLaws.{lead-none, onStep, Moved, moved-by, lead-by}
 use borrow.Author.Needs.{needs}
@@ -25,11 +25,11 @@ abbrev μ-loop : tie.MeasureT-loop
 μ-loop input out₀ at to₀ here₀ out to here = 2 * (length input - here .place) + here .pending
 
 -- what is left to write, by the answer that the loop matched
-rest-is : (d : tie.After-step Inv-loop μ-loop) (q : Step) → d .step .result ≡ q
+rest-is : (d : tie.After-step Inv-loop μ-loop) (q : Answer) → d .step .result ≡ q
     → linesOf (frontFrames (d .before .before .before .before .args .input .now) (d .before .loop .here)) ≡ linesOf (lead epl (List ℕ) frameOf (d .before .before .before .before .args .input .now) (onStep (d .before .before .before .before .args .input .now) q))
 rest-is d q k = lead-by (d .before .before .before .before .args .input .now) (d .before .loop .here) (d .step .result) q (d .step .ensures) k
 
-moved : (d : tie.After-step Inv-loop μ-loop) (q : Step) → d .step .result ≡ q → Moved (d .before .before .before .before .args .input .now) (d .before .loop .here) q
+moved : (d : tie.After-step Inv-loop μ-loop) (q : Answer) → d .step .result ≡ q → Moved (d .before .before .before .before .args .input .now) (d .before .loop .here) q
 moved d q k = moved-by (d .before .before .before .before .args .input .now) (d .before .loop .here) (d .step .result) q (d .step .ensures) k
 
 loop-holds : tie.Need-loop-holds Inv-loop μ-loop

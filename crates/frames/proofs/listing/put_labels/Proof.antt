@@ -1,5 +1,5 @@
--- `frames::listing::put_labels` meets its contract. Invariant: with the labels from start on, the buffer is what it shall be; only elements
--- stand between start and here. Measure: what is left of the walk. Assumes nothing.
+-- `frames::listing::put_labels` meets its contract. Invariant: with the labels from start on, the buffer is what it
+-- shall be; only elements stand between start and here. Measure: what is left of the walk. Assumes nothing.
 use mathlib.Core.Path.{_≡_, refl, sym, ap, _∙_}
 use mathlib.Core.List.{List}
 use Prim.Native.Nat.{ℕ, _+_, _-_, _*_}
@@ -11,8 +11,8 @@ use Rattle.grammar.specs.Epl.{epl}
 use Rattle.element_frames.specs.Frame.{frameOf}
 use Rattle.walk.specs.Steps.{traceOf}
 use Rattle.elements.specs.declared.walk_state.WalkState.{WalkState}
-use Rattle.walk.specs.declared.answer.Step.{Step}
-use Rattle.walk.specs.declared.answer.Step.the-variants.{Element, Clear, Print, End, Refused}
+use Rattle.walk.specs.declared.answer.Answer.{Answer}
+use Rattle.walk.specs.declared.answer.Answer.the-variants.{Element, Clear, Print, End, Refused}
 use Rattle.frames.specs.Listing.{listingOf, labelText, frontFrames, textFrom, allText}
 use Rattle.frames.proofs.ListingLaws.{onStep, Moved, moved-by, text-by, after-by}
 use borrow.Author.Needs.{needs}
@@ -25,15 +25,19 @@ Inv-loop input out₀ first₀ here₀ at₀ out first here at = Toward out at (
 abbrev μ-loop : tie.MeasureT-loop
 μ-loop input out₀ first₀ here₀ at₀ out first here at = 2 * (length input - here .place) + here .pending
 
+-- the input, where a step was taken
+abbrev source : tie.After-step Inv-loop μ-loop → List ℕ
+source d = d .before .before .before .before .before .before .args .input .now
+
 -- what is left to write, by the answer that the loop matched
-rest-is : (d : tie.After-step Inv-loop μ-loop) (q : Step) → d .step .result ≡ q
-    → textFrom (d .before .before .before .before .before .before .args .input .now) (d .before .loop .first) ≡ listingOf (labelsIn epl (List ℕ) frameOf (d .before .before .before .before .before .before .args .input .now) (frontFrames (d .before .before .before .before .before .before .args .input .now) (d .before .loop .first)) (after (onStep (d .before .before .before .before .before .before .args .input .now) q)))
+rest-is : (d : tie.After-step Inv-loop μ-loop) (q : Answer) → d .step .result ≡ q
+    → textFrom (source d) (d .before .loop .first) ≡ listingOf (labelsIn epl (List ℕ) frameOf (source d) (frontFrames (source d) (d .before .loop .first)) (after (onStep (source d) q)))
 rest-is d q k =
     let l = d .before .loop in
-    text-by (d .before .before .before .before .before .before .args .input .now) (l .here) (d .step .result) q (d .step .ensures) k (l .first) (l .inv .1)
+    text-by (source d) (l .here) (d .step .result) q (d .step .ensures) k (l .first) (l .inv .1)
 
-moved : (d : tie.After-step Inv-loop μ-loop) (q : Step) → d .step .result ≡ q → Moved (d .before .before .before .before .before .before .args .input .now) (d .before .loop .here) q
-moved d q k = moved-by (d .before .before .before .before .before .before .args .input .now) (d .before .loop .here) (d .step .result) q (d .step .ensures) k
+moved : (d : tie.After-step Inv-loop μ-loop) (q : Answer) → d .step .result ≡ q → Moved (source d) (d .before .loop .here) q
+moved d q k = moved-by (source d) (d .before .loop .here) (d .step .result) q (d .step .ensures) k
 
 start-requires : tie.Need-start-requires Inv-loop μ-loop
 start-requires c κs = search needs
@@ -59,7 +63,7 @@ loop-again : tie.Need-loop-again Inv-loop μ-loop
 loop-again c =
     let d = c .before .before .before in
     let l = d .before .loop in
-    (l .inv .0, after-by (d .before .before .before .before .before .before .args .input .now) (l .here) (d .step .result) (Element (c .before .next .given .0 .0) (c .before .next .given .0 .1 .0)) (d .step .ensures) (c .before .next .given .1) (l .first) (l .inv .1))
+    (l .inv .0, after-by (source d) (l .here) (d .step .result) (Element (c .before .next .given .0 .0) (c .before .next .given .0 .1 .0)) (d .step .ensures) (c .before .next .given .1) (l .first) (l .inv .1))
 
 enum-known-next-2 : tie.Need-enum-known-next-2 Inv-loop μ-loop
 enum-known-next-2 c = search needs
@@ -77,15 +81,20 @@ put-label-requires : tie.Need-put-label-requires Inv-loop μ-loop
 put-label-requires c κs =
     let d = c .before .before .before .before in
     let l = d .before .loop in
-    room (l .inv .0) (labelText (d .before .before .before .before .before .before .args .input .now) (c .before .before .next3 .given .0 .1 .0 .count) (l .first)) (textFrom (d .before .before .before .before .before .before .args .input .now) (c .before .before .next3 .given .0 .0)) (omega arith) (rest-is d (Print (c .before .before .next3 .given .0 .0) (c .before .before .next3 .given .0 .1 .0)) (c .before .before .next3 .given .1))
+    room (l .inv .0) (labelText (source d) (c .before .before .next3 .given .0 .1 .0 .count) (l .first)) (textFrom (source d) (c .before .before .next3 .given .0 .0)) (omega arith) (rest-is d (Print (c .before .before .next3 .given .0 .0) (c .before .before .next3 .given .0 .1 .0)) (c .before .before .next3 .given .1))
 
 loop-less-3 : tie.Need-loop-less-3 Inv-loop μ-loop
-loop-less-3 c = omega (arith, moved (c .before .before .before .before .before .before .before) (Print (c .before .before .before .before .before .next3 .given .0 .0) (c .before .before .before .before .before .next3 .given .0 .1 .0)) (c .before .before .before .before .before .next3 .given .1))
+loop-less-3 c =
+    let n = c .before .before .before .before .before in
+    let g = n .next3 .given in
+    omega (arith, moved (n .before .before) (Print (g .0 .0) (g .0 .1 .0)) (g .1))
 
 loop-again-3 : tie.Need-loop-again-3 Inv-loop μ-loop
 loop-again-3 c =
-    let d = c .before .before .before .before .before .before .before in
-    (put (d .before .loop .inv .0) (textFrom (d .before .before .before .before .before .before .args .input .now) (c .before .before .before .before .before .next3 .given .0 .0)) (rest-is d (Print (c .before .before .before .before .before .next3 .given .0 .0) (c .before .before .before .before .before .next3 .given .0 .1 .0)) (c .before .before .before .before .before .next3 .given .1)) (c .before .before .put-label .ensures), refl)
+    let n = c .before .before .before .before .before in
+    let d = n .before .before in
+    let g = n .next3 .given in
+    (put (d .before .loop .inv .0) (textFrom (source d) (g .0 .0)) (rest-is d (Print (g .0 .0) (g .0 .1 .0)) (g .1)) (c .before .before .put-label .ensures), refl)
 
 enum-known-next-4 : tie.Need-enum-known-next-4 Inv-loop μ-loop
 enum-known-next-4 c = search needs

@@ -1,4 +1,5 @@
--- `graphics::gw_span::header_field_len` meets its contract. Invariant: `Within`, nothing but bytes of the field stands before i. Measure: t's length less i.
+-- `graphics::gw_span::header_field_len` meets its contract. Invariant: `Within`, nothing but bytes of the field stands
+-- before i. Measure: t's length less i.
 -- Assumes nothing.
 use mathlib.Core.Path.{sym, refl, _∙_}
 use Prim.Native.Nat.{_-_}

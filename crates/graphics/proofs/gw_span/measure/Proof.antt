@@ -1,4 +1,5 @@
--- `graphics::gw_span::measure` meets its contract: the tests in their order. Neither size is negative behind the first two, so the casts keep their values.
+-- `graphics::gw_span::measure` meets its contract: the tests in their order. Neither size is negative behind the first
+-- two, so the casts keep their values.
 -- Assumes nothing.
 use mathlib.Core.Path.{_≡_}
 use mathlib.Core.Bool.{false}

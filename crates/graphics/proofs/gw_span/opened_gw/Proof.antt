@@ -1,4 +1,5 @@
--- `graphics::gw_span::opened_gw` meets its contract: the first field that no comma closes, then the sizes decide. `header-le` bounds the payload's place.
+-- `graphics::gw_span::opened_gw` meets its contract: the first field that no comma closes, then the sizes decide.
+-- `header-le` bounds the payload's place.
 -- Assumes nothing.
 use mathlib.Core.Path.{_≡_, ap, _∙_}
 use native.Mathlib.Omega.{arith}

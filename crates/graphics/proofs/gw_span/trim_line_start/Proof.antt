@@ -1,4 +1,5 @@
--- `graphics::gw_span::trim_line_start` meets its contract. Invariant: nothing but blanks stands before i. Measure: s's length less i.
+-- `graphics::gw_span::trim_line_start` meets its contract. Invariant: nothing but blanks stands before i. Measure: s's
+-- length less i.
 -- Assumes nothing.
 use mathlib.Core.Logic.{⊎-elim}
 use mathlib.Core.Path.{_≡_, sym, _∙_}

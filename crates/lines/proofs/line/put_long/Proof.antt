@@ -1,4 +1,5 @@
--- `lines::line::put_long` meets its contract: the blanks before the line, its pieces, and LF where something was written. Assumes nothing.
+-- `lines::line::put_long` meets its contract: the blanks before the line, its pieces, and LF where something was
+-- written. Assumes nothing.
 use mathlib.Core.Path.{_≡_, sym, ap, _∙_}
 use mathlib.Core.List.{List, [], _∷_}
 use Prim.Native.Nat.{ℕ, _+_, _-_}

@@ -1,4 +1,5 @@
--- `lines::line::put_pieces` meets its contract. Invariant: the line is written up to done, and blanks go on to seen. Measure: the bytes left. Assumes nothing.
+-- `lines::line::put_pieces` meets its contract. Invariant: the line is written up to done, and blanks go on to seen.
+-- Measure: the bytes left. Assumes nothing.
 use mathlib.Core.Path.{_≡_}
 use mathlib.Core.Logic.{_⊎_, ⊎-elim, inl, inr}
 use mathlib.Core.List.{List}

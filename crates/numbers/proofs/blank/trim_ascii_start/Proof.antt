@@ -1,4 +1,5 @@
--- `crate::blank::trim_ascii_start` meets its contract. Invariant: nothing but blanks stands before i. Measure: s's length less i.
+-- `crate::blank::trim_ascii_start` meets its contract. Invariant: nothing but blanks stands before i. Measure: s's
+-- length less i.
 -- Assumes nothing.
 use mathlib.Core.Logic.{⊎-elim}
 use mathlib.Core.Path.{_≡_, sym, _∙_}

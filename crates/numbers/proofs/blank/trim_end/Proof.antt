@@ -1,4 +1,5 @@
--- `crate::blank::trim_end` meets its contract. Invariant: t trimmed is s trimmed, and k is the blank that t ends with. Measure: t's length.
+-- `crate::blank::trim_end` meets its contract. Invariant: t trimmed is s trimmed, and k is the blank that t ends with.
+-- Measure: t's length.
 -- Assumes nothing.
 use mathlib.Core.Path.{_≡_, refl, sym, _∙_}
 use mathlib.Core.List.{reverse}

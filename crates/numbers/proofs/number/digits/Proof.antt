@@ -1,4 +1,5 @@
--- `crate::number::digits` meets its contract. Invariant: v is the value of the digits before i, at most 2^31. Measure: s's length less i.
+-- `crate::number::digits` meets its contract. Invariant: v is the value of the digits before i, at most 2^31. Measure:
+-- s's length less i.
 -- Assumes nothing.
 use mathlib.Core.Path.{_≡_, sym, ap, _∙_}
 use Prim.Native.Nat.{_≤_, _-_}

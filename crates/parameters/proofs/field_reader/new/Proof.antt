@@ -1,4 +1,5 @@
--- `parameters::field_reader::new` meets its contract: a walk of its MIR, by hand. The slice and the place become the reader's fields, and what they own is what it owns.
+-- `parameters::field_reader::new` meets its contract: a walk of its MIR, by hand. The slice and the place become the
+-- reader's fields, and what they own is what it owns.
 -- Assumes nothing.
 use mathlib.Core.Path.{refl}
 use mathlib.Core.List.{[], _∷_}

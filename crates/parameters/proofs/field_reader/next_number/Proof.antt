@@ -1,4 +1,5 @@
--- `parameters::field_reader::next_number` meets its contract: a walk of its MIR, by hand. The reader is taken apart, and its slice and its place go to `number_at_place`, of which the proof knows that it meets its contract.
+-- `parameters::field_reader::next_number` meets its contract: a walk of its MIR, by hand. The reader is taken apart,
+-- and its slice and its place go to `number_at_place`, of which the proof knows that it meets its contract.
 -- Assumes nothing.
 use mathlib.Core.Path.{_≡_, refl}
 use mathlib.Core.List.{[], _∷_}
@@ -25,7 +26,8 @@ next-number-spec 𝓤 H 𝓜 𝓖 𝓡 =
     alloc1 ! (λ l₀. alloc1 ! (λ l₁. alloc1 ! (λ l₂. alloc1 ! (λ l₃. alloc1 ! (λ l₄. alloc0 ! $ params1 ! $ pass1 ! (init ! 6 refl (ty .0)) $ pass1 ! (init ! 4 refl (ty .1 .0)) $ pass0 ! $
     assigns ! (of-opd ! (load ! (from ! (fld ! refl (stop !))) (look-in ! 6 (sub ! 0 refl (whole !))))) (from ! (stop !)) (init ! 2 refl (tt, ty .0 .1 .0)) $
     assigns ! (of-opd ! (load ! (from ! (fld ! refl (stop !))) (look-in ! 6 (sub ! 1 refl (whole !))))) (from ! (stop !)) (init ! 0 refl (tt, ty .0 .1 .1 .0)) $
-    -- [_4; …; _3; …; _2; …; _1; …; room for _0; …; the token; what the reader and the default own]: the default's goes behind the place's
+    -- [_4; …; _3; …; _2; …; _1; …; room for _0; …; the token; what the reader and the default own]: the default's goes
+    -- behind the place's
     move ! (11 ∷ []) $ fsplit ! $ opens (κs .0) (a .0) $ fsplit ! $ move ! (1 ∷ []) $ fsplit ! $ move ! (1 ∷ []) $ drop ! $ move ! (0 ∷ 2 ∷ []) $ fjoin ! $ move ! (1 ∷ 0 ∷ []) $ fjoin ! $ move ! (11 ∷ 0 ∷ []) $
     calls ! fm work.ended (λ κs a r. r ≡ numberFrom (a .1 .1 .0) (now (a .0)) (a .1 .0)) (cited 𝓤 H _ 𝓜 𝓡 code.env work-def.name work-def.routine code.calls-parameters·field-reader·number-at-place (work-thm.met 𝓤 H 𝓜 𝓖 𝓡))
     ((κs, qs, tt, (a .0 .src, (a .0 .at, (a .1 .0, tt))), (slice (κs .0) .vals (a .0 .src), (usize .vals (a .0 .at), (i32 .vals (a .1 .0), tt)))), tt)

@@ -1,4 +1,5 @@
--- `parameters::field_reader::rest` meets its contract: a walk of its MIR, by hand. The reader is taken apart, and its slice and its place go to `rest_at_place`, of which the proof knows that it meets its contract.
+-- `parameters::field_reader::rest` meets its contract: a walk of its MIR, by hand. The reader is taken apart, and its
+-- slice and its place go to `rest_at_place`, of which the proof knows that it meets its contract.
 -- Assumes nothing.
 use mathlib.Core.Path.{_≡_, refl}
 use mathlib.Core.List.{[], _∷_}

@@ -1,4 +1,5 @@
--- `parameters::params::digits_or_field` meets its contract: past the end, digits up to the end or a comma, or any field.
+-- `parameters::params::digits_or_field` meets its contract: past the end, digits up to the end or a comma, or any
+-- field.
 -- Assumes nothing.
 use mathlib.Core.Path.{_≡_}
 use native.Mathlib.Omega.{arith}

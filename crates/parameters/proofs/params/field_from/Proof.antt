@@ -1,4 +1,5 @@
--- `parameters::params::field_from` meets its contract: a walk of its MIR, by hand. A reader that `new` makes is held in a local and passed to `next_number`.
+-- `parameters::params::field_from` meets its contract: a walk of its MIR, by hand. A reader that `new` makes is held in
+-- a local and passed to `next_number`.
 -- Assumes nothing.
 use mathlib.Core.Path.{_≡_, refl}
 use mathlib.Core.List.{[], _∷_}
@@ -26,7 +27,8 @@ unfolding code.routine
 field-from-spec 𝓤 H 𝓜 𝓖 𝓡 =
     walked 𝓤 H 𝓜 𝓖 𝓡 fn.ended (fn.clauses 𝓤 H (𝓖 .A) (𝓜 .mem) (𝓡 .run)) code.env name code.function (λ κs. (slice (κs .0), (usize, (i32, tt)))) (code.unfolded 𝓤 H 𝓜 𝓡) (λ κs a. ((tt, (tt, (tt, tt))), (tt, (tt, (tt, tt))), (tt, (tt, (tt, tt))))) (λ fm κs qs a g ty Q ends.
     alloc1 ! (λ l₀. alloc1 ! (λ l₁. alloc1 ! (λ l₂. alloc1 ! (λ l₃. alloc1 ! (λ l₄. alloc0 ! $ params1 ! $ pass1 ! (init ! 6 refl (ty .0)) $ pass1 ! (init ! 4 refl (ty .1 .0)) $ pass1 ! (init ! 2 refl (ty .1 .1 .0)) $ pass0 ! $
-    -- [room for _4; …; _3; …; _2; …; _1; …; room for _0; …; the token; what s, at and default own]: the default's waits for the second call
+    -- [room for _4; …; _3; …; _2; …; _1; …; room for _0; …; the token; what s, at and default own]: the default's waits
+    -- for the second call
     move ! (11 ∷ []) $ fsplit ! $ move ! (1 ∷ []) $ fsplit ! $ nothing ! $ move ! (1 ∷ 0 ∷ []) $ fjoin ! $ move ! (2 ∷ 0 ∷ []) $ fjoin ! $ move ! (12 ∷ 0 ∷ []) $
     calls ! fm new.ended (λ κs a r. (r .src ≡ a .0) × (r .at ≡ a .1 .0)) (cited 𝓤 H _ 𝓜 𝓡 code.env new-def.name new-def.routine code.calls-parameters·field-reader·new (new-thm.met 𝓤 H 𝓜 𝓖 𝓡))
     ((κs, qs, tt, (a .0, (a .1 .0, tt)), (slice (κs .0) .vals (a .0), (usize .vals (a .1 .0), tt))), tt) (and-then ! (load ! (from ! (stop !)) (look ! 8 refl)) (and-then ! (load ! (from ! (stop !)) (look ! 6 refl)) (no-more !))) (λ u d e is.

@@ -1,4 +1,5 @@
--- `parameters::params::has_fields` meets its contract. Invariant: a comma before i for each field that is no longer wanted. Measure: s's length less i.
+-- `parameters::params::has_fields` meets its contract. Invariant: a comma before i for each field that is no longer
+-- wanted. Measure: s's length less i.
 -- Assumes nothing.
 use mathlib.Core.Logic.{⊎-elim}
 use mathlib.Core.Path.{_≡_}

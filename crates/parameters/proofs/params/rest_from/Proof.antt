@@ -1,4 +1,5 @@
--- `parameters::params::rest_from` meets its contract: a walk of its MIR, by hand. A reader that `new` makes is held in a local and passed to `rest`.
+-- `parameters::params::rest_from` meets its contract: a walk of its MIR, by hand. A reader that `new` makes is held in
+-- a local and passed to `rest`.
 -- Assumes nothing.
 use mathlib.Core.Path.{_≡_, refl}
 use mathlib.Core.List.{[], _∷_}

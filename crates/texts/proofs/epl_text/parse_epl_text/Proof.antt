@@ -1,4 +1,5 @@
--- `texts::epl_text::parse_epl_text` meets its contract: its calls read the seven fields in order, and their number decides.
+-- `texts::epl_text::parse_epl_text` meets its contract: its calls read the seven fields in order, and their number
+-- decides.
 -- Assumes nothing.
 use mathlib.Core.Path.{_≡_, refl, _∙_}
 use mathlib.Core.List.{List}

@@ -1,11 +1,12 @@
--- `texts::epl_text::text_element` meets its contract: its position and its font decide, and 13 is the answer where either has none.
+-- `texts::epl_text::text_element` meets its contract: its position and its font decide, and 13 is the answer where
+-- either has none.
 -- Assumes nothing.
 use mathlib.Core.Path.{_≡_, refl, sym, _∙_}
 use Rattle.numbers.proofs.IntLaws.{back32}
 use Rattle.elements.specs.declared.DataSpan.{DataSpan}
 use Rattle.elements.specs.declared.refusal.Refusal.the-variants.{OutOfRange}
 use Rattle.parameters.specs.declared.position.Placed.the-variants as placing
-use Rattle.parameters.specs.declared.reading.Reading.the-variants.{Refused}
+use Rattle.parameters.specs.declared.reading.LineReading.the-variants.{Refused}
 use Rattle.parameters.specs.Position.{placed}
 use Rattle.texts.specs.declared.epl_text.TextFields.{TextFields}
 use Rattle.texts.specs.declared.fonts.Scaled.{Scaled}

@@ -2,7 +2,7 @@
 use mathlib.Core.Path.{_≡_, sym, ap}
 use Prim.Native.Nat.{ℕ}
 use Rattle.elements.specs.declared.LabelPosition.{LabelPosition}
-use Rattle.parameters.specs.declared.reading.Reading.{Reading}
+use Rattle.parameters.specs.declared.reading.LineReading.{LineReading}
 use Rattle.whole.specs.Reading.{did}
 use Rattle.grammar.specs.Epl.{actOf}
 use Rattle.numbers.proofs.IntLaws.{back32}
@@ -10,8 +10,8 @@ use borrow.Author.Needs.{needs}
 use Rattle.units.proofs.unit.line_unit.Statement.{statement}
 use Rattle.units.proofs.unit.line_unit.Tie as tie
 
-by : (size : ℕ) (r : LabelPosition) {p q : Reading} → p ≡ q → did size (actOf r q) ≡ did size (actOf r p)
-by size r e = ap (λ (x : Reading). did size (actOf r x)) (sym e)
+by : (size : ℕ) (r : LabelPosition) {p q : LineReading} → p ≡ q → did size (actOf r q) ≡ did size (actOf r p)
+by size r e = ap (λ (x : LineReading). did size (actOf r x)) (sym e)
 
 enum-told : tie.Need-enum-told
 enum-told c = search needs

@@ -1,18 +1,21 @@
--- `walk::step::step` meets its contract. Invariant: the step is the first answer from at on, with this reference. Measure: the bytes left.
+-- `walk::step::step` meets its contract. Invariant: the step is the first answer from at on, with this reference.
+-- Measure: the bytes left.
 -- Assumes nothing.
 use mathlib.Core.Path.{_≡_, sym, ap, _∙_}
-use Prim.Native.Nat.{_+_, _-_, _≤_}
+use mathlib.Core.List.{List}
+use Prim.Native.Nat.{ℕ, _+_, _-_, _≤_}
 use native.Mathlib.Omega.{arith}
 use native.Mathlib.Numerals.{add-one}
 use lib.ListN.{length, drop, length-take}
+use Rattle.elements.specs.declared.walk_state.WalkState.{WalkState}
 use Rattle.whole.specs.Step.{step, answer, handing}
 use Rattle.whole.proofs.TurnLaws.{Fits, onReading, turn-at, fits-at, pass-on, print-none, print-some, step-long, step-past, step-many, step-within}
 use Rattle.grammar.specs.Epl.{epl}
 use Rattle.grammar.proofs.FoundLaws.{reads}
 use Rattle.units.specs.Unit.{unitOf}
 use Rattle.walk.specs.Steps.{stateOf}
-use Rattle.units.specs.declared.unit.UnitReading.{UnitReading}
-use Rattle.units.specs.declared.unit.UnitReading.the-variants.{Nothing, Fault, Passed, Cleared, Element, Print}
+use Rattle.units.specs.declared.unit.Reading.{Reading}
+use Rattle.units.specs.declared.unit.Reading.the-variants.{End, Fault, Passed, Cleared, Element, Print}
 use borrow.Author.Needs.{needs}
 use Rattle.walk.proofs.step.step.Statement.{statement}
 use Rattle.walk.proofs.step.step.Tie as tie
@@ -23,19 +26,25 @@ Inv-loop input st at₀ n reference₀ at reference = (at ≤ length input) × (
 abbrev μ-loop : tie.MeasureT-loop
 μ-loop input st at₀ n reference₀ at reference = length input - at
 
+-- the input and the state that the step was given, where a unit was read
+abbrev source : tie.After-read-unit Inv-loop μ-loop → List ℕ
+source d = d .before .before .before .before .before .before .before .before .args .input .now
+
+abbrev from : tie.After-read-unit Inv-loop μ-loop → WalkState
+from d = d .before .before .before .before .before .before .before .before .args .st
+
 -- the whole step, by the reading that the loop matched
-taken : (d : tie.After-read-unit Inv-loop μ-loop) (q : UnitReading) → d .read-unit .result ≡ q
-    → onReading epl (stateOf (d .before .before .before .before .before .before .before .before .args .st)) (drop (d .before .before .loop .at) (d .before .before .before .before .before .before .before .before .args .input .now)) (d .before .before .loop .at) (d .before .before .loop .reference) (d .before .before .before .before .before .before .before .before .args .st .pending) (unitOf q)
-    ≡ step epl (d .before .before .before .before .before .before .before .before .args .input .now) (stateOf (d .before .before .before .before .before .before .before .before .args .st))
+taken : (d : tie.After-read-unit Inv-loop μ-loop) (q : Reading) → d .read-unit .result ≡ q
+    → onReading epl (stateOf (from d)) (drop (d .before .before .loop .at) (source d)) (d .before .before .loop .at) (d .before .before .loop .reference) (from d .pending) (unitOf q)
+    ≡ step epl (source d) (stateOf (from d))
 taken d q k =
     let l = d .before .before .loop in
-    let a = d .before .before .before .before .before .before .before .before .args in
-    sym (l .inv .1 ∙ turn-at epl reads (a .input .now) (l .at) (l .reference) (unitOf q) (ap unitOf (sym k) ∙ d .read-unit .ensures) (stateOf (a .st)) (a .st .pending))
+    sym (l .inv .1 ∙ turn-at epl reads (source d) (l .at) (l .reference) (unitOf q) (ap unitOf (sym k) ∙ d .read-unit .ensures) (stateOf (from d)) (from d .pending))
 
-room : (d : tie.After-read-unit Inv-loop μ-loop) (q : UnitReading) → d .read-unit .result ≡ q → Fits epl (length (d .before .before .before .before .before .before .before .before .args .input .now) - d .before .before .loop .at) (unitOf q)
+room : (d : tie.After-read-unit Inv-loop μ-loop) (q : Reading) → d .read-unit .result ≡ q → Fits epl (length (source d) - d .before .before .loop .at) (unitOf q)
 room d q k =
     let l = d .before .before .loop in
-    fits-at epl reads (d .before .before .before .before .before .before .before .before .args .input .now) (l .at) (l .reference) (unitOf q) (ap unitOf (sym k) ∙ d .read-unit .ensures)
+    fits-at epl reads (source d) (l .at) (l .reference) (unitOf q) (ap unitOf (sym k) ∙ d .read-unit .ensures)
 
 returns : tie.Need-returns Inv-loop μ-loop
 returns c = sym (step-long epl (c .before .before .args .input .now) (stateOf (c .before .before .args .st)) (c .if1 .taken))
@@ -73,7 +82,7 @@ at-end-requires : tie.Need-at-end-requires Inv-loop μ-loop
 at-end-requires c κs = search needs
 
 returns-4 : tie.Need-returns-4 Inv-loop μ-loop
-returns-4 c = c .at-end .ensures ∙ taken (c .before .before .before) Nothing (c .before .enum-told .given .1)
+returns-4 c = c .at-end .ensures ∙ taken (c .before .before .before) End (c .before .enum-told .given .1)
 
 enum-known-k : tie.Need-enum-known-k Inv-loop μ-loop
 enum-known-k c = search needs
@@ -93,9 +102,8 @@ loop-less c = omega (arith, room (c .before .before .before) (Passed (c .before 
 loop-again : tie.Need-loop-again Inv-loop μ-loop
 loop-again c =
     let d = c .before .before .before in
-    let a = d .before .before .before .before .before .before .before .before .args in
     let g = c .before .size .given in
-    (omega (arith, room d (Passed (g .0 .0) (g .0 .1 .0)) (g .1)), sym (taken d (Passed (g .0 .0) (g .0 .1 .0)) (g .1)) ∙ pass-on epl (stateOf (a .st)) (a .input .now) (d .before .before .loop .at) (g .0 .0) (g .0 .1 .0) (a .st .pending))
+    (omega (arith, room d (Passed (g .0 .0) (g .0 .1 .0)) (g .1)), sym (taken d (Passed (g .0 .0) (g .0 .1 .0)) (g .1)) ∙ pass-on epl (stateOf (from d)) (source d) (d .before .before .loop .at) (g .0 .0) (g .0 .1 .0) (from d .pending))
 
 enum-known-size-2 : tie.Need-enum-known-size-2 Inv-loop μ-loop
 enum-known-size-2 c = search needs
@@ -128,8 +136,7 @@ returns-8 : tie.Need-returns-8 Inv-loop μ-loop
 returns-8 c =
     let d = c .before .before .before .before in
     let l = d .before .before .loop in
-    let a = d .before .before .before .before .before .before .before .before .args in
-    sym (print-some epl tt _ (l .at + c .before .before .size3 .given .0 .0) (l .reference) (a .st .pending) (omega arith)) ∙ taken d (Print (c .before .before .size3 .given .0 .0)) (c .before .before .size3 .given .1)
+    sym (print-some epl tt _ (l .at + c .before .before .size3 .given .0 .0) (l .reference) (from d .pending) (omega arith)) ∙ taken d (Print (c .before .before .size3 .given .0 .0)) (c .before .before .size3 .given .1)
 
 add-at-2 : tie.Need-add-at-2 Inv-loop μ-loop
 add-at-2 c = omega (arith, room (c .before .before .before .before) (Print (c .before .before .size3 .given .0 .0)) (c .before .before .size3 .given .1))
@@ -141,9 +148,8 @@ loop-again-2 : tie.Need-loop-again-2 Inv-loop μ-loop
 loop-again-2 c =
     let d = c .before .before .before .before in
     let l = d .before .before .loop in
-    let a = d .before .before .before .before .before .before .before .before .args in
     let size = c .before .before .size3 .given .0 .0 in
-    (omega (arith, room d (Print size) (c .before .before .size3 .given .1)), sym (taken d (Print size) (c .before .before .size3 .given .1)) ∙ print-none epl tt _ (l .at + size) (l .reference) (a .st .pending) (omega arith) ∙ pass-on epl (stateOf (a .st)) (a .input .now) (l .at) size (l .reference) (a .st .pending))
+    (omega (arith, room d (Print size) (c .before .before .size3 .given .1)), sym (taken d (Print size) (c .before .before .size3 .given .1)) ∙ print-none epl tt _ (l .at + size) (l .reference) (from d .pending) (omega arith) ∙ pass-on epl (stateOf (from d)) (source d) (l .at) size (l .reference) (from d .pending))
 
 pub step-spec : {M : Type 1} → statement M
 step-spec =

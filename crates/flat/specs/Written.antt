@@ -1,8 +1,8 @@
 -- The flat answer to a call that fills a lent buffer (01, "Who causes which number").
 use mathlib.Core.Bool.{cond}
 use lib.Dec.{eqb}
-use Rattle.whole.specs.Given.{Given, bytes, refused}
-use Rattle.decoding.specs.declared.written.Written.{Written}
+use Rattle.elements.specs.Given.{Given, bytes, refused}
+use Rattle.flat.specs.declared.written.Written.{Written}
 
 -- number 0 is a length, any other a refusal
 abbrev pub givenFlat : Written → Given

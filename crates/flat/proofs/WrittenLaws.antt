@@ -4,8 +4,8 @@ use Prim.Native.Nat.{ℕ}
 use Rattle.elements.specs.declared.refusal.Refusal.{Refusal}
 use Rattle.elements.specs.declared.refusal.Refusal.the-variants.{TextFields, BarcodeFields, Barcode2dFields, LineFields, DiagonalFields, BoxFields, BarcodeType, Barcode2dType, QrData, GraphicFields, GraphicNegative, GraphicTruncated, OutOfRange, InputTooLong, OutputTooShort, StateOutside}
 use Rattle.elements.specs.Refusals.{numberOf}
-use Rattle.whole.specs.Given.{refused}
-use Rattle.decoding.specs.Written.{givenFlat}
+use Rattle.elements.specs.Given.{refused}
+use Rattle.flat.specs.Written.{givenFlat}
 
 pub flat-refusal : (k : Refusal) (p : ℕ) → givenFlat (record { number = numberOf k; place = p }) ≡ refused (numberOf k) p
 flat-refusal TextFields p = refl

@@ -1,8 +1,8 @@
--- `laddertick_c::written::of_filled` meets its contract: no refusal has the number 0. Assumes nothing.
-use Rattle.laddertick_c.proofs.FlatLaws.{flat-refusal}
+-- `flat::written::of_filled` meets its contract: no refusal has the number 0. Assumes nothing.
+use Rattle.flat.proofs.WrittenLaws.{flat-refusal}
 use borrow.Author.Needs.{needs}
-use Rattle.laddertick_c.proofs.written.of_filled.Statement.{statement}
-use Rattle.laddertick_c.proofs.written.of_filled.Tie as tie
+use Rattle.flat.proofs.written.of_filled.Statement.{statement}
+use Rattle.flat.proofs.written.of_filled.Tie as tie
 
 enum-known-a : tie.Need-enum-known-a
 enum-known-a c = search needs
