@@ -10,19 +10,16 @@ use lib.IntN.{ℤ, pos, negsuc, _*ℤ_}
 use lib.Signed.{mag, ltZ}
 use lib.ListN.{length, getD}
 use borrow.Author.Tests.{ltb-true, ltb-false, lt-ltb, le-leb, lt-leb, eq-eqb, ne-eqb, eqb-false}
-use Rattle.text.specs.Ascii.{letter}
 use Rattle.text.proofs.BoolLaws.{test}
 use Rattle.parameters.proofs.ParamsLaws.{same-one, same-other}
 use Rattle.numbers.proofs.IntLaws.{mag-neg-pos}
 use Rattle.numbers.specs.Int.{eqZ, minZ}
-use Rattle.numbers.specs.Number.{numberSpelled}
 use Rattle.numbers.specs.declared.number.Number.{Number}
 use Rattle.numbers.specs.declared.number.Number.the-variants as number
 use Rattle.barcodes_2d.specs.Letters.{letterOf}
-use Rattle.barcodes_2d.specs.Barcode2d.{symbologyOf, between, aztecSize, isMode, pdf417ModuleWidth}
-use Rattle.barcodes_2d.specs.Options.{optionsOf, lastOf, clamped, clampedOr, lastClamped}
+use Rattle.barcodes_2d.specs.Barcode2d.{symbologyOf, between, aztecSize, isMode}
+use Rattle.barcodes_2d.specs.Options.{clamped, clampedOr}
 use Rattle.barcodes_2d.specs.declared.barcode_2d.Symbology2d.the-variants.{Unlisted}
-use Rattle.barcodes_2d.specs.declared.options.Wanted.the-variants as wanted
 
 -- a type is one letter
 
@@ -78,13 +75,9 @@ clamped-le : (lo hi : ℕ) (z : ℤ) → mag (clamped (pos lo) (pos hi) z) ≤ h
 clamped-le lo hi (pos z) = test (ltb z lo) (λ e. rw e (min-le lo hi)) (λ e. rw e (min-le z hi))
 clamped-le lo hi (negsuc z) = min-le lo hi
 
-clamped-or-le : (d lo hi : ℕ) (n : Number) → d ≤ hi → mag (clampedOr (pos d) (pos lo) (pos hi) n) ≤ hi
+pub clamped-or-le : (d lo hi : ℕ) (n : Number) → d ≤ hi → mag (clampedOr (pos d) (pos lo) (pos hi) n) ≤ hi
 clamped-or-le d lo hi (number.Value z) h = clamped-le lo hi z
 clamped-or-le d lo hi number.Other h = h
-
-pub width-le : (s : List ℕ) → mag (pdf417ModuleWidth s) ≤ 9
-unfolding pdf417ModuleWidth lastClamped
-width-le s = clamped-or-le 6 2 9 (numberSpelled (lastOf wanted.Number (letter "x") (optionsOf s))) (omega arith)
 
 pub four-fits : (z : ℤ) → mag z ≤ 9 → mag (pos 4 *ℤ z) < 2147483648
 four-fits (pos n) h = omega arith

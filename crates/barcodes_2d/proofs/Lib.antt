@@ -1,4 +1,5 @@
 pub mod OptionsLaws
+pub mod LastLaws
 pub mod CommaLaws
 pub mod Barcode2dLaws
 pub mod Cases

@@ -1,111 +1,190 @@
--- The parameters of `b` byte by byte: what stands first, and how far the reading goes on.
+-- The parameters of `b` in one pass: a value's digits, what stands first is taken, and the rest is read on.
 -- Assumes nothing.
-use mathlib.Core.Path.{_≡_, refl, sym, _∙_}
-use mathlib.Core.Bool.{Bool, true, false, cond, _&&_}
-use mathlib.Core.List.{List, [], _∷_, _++_, append-assoc, append-nil}
-use Prim.Native.Nat.{ℕ, _+_, _-_, _<_, _≤_}
+use mathlib.Core.Path.{_≡_, refl, sym, ap, _∙_}
+use mathlib.Core.Bool.{Bool, true, false, cond}
+use mathlib.Core.List.{List, [], _∷_}
+use mathlib.Core.Option.{Option, none, some}
+use Prim.Native.Nat.{ℕ, zero, suc, _+_, _-_, _*_, _<_, _≤_}
 use native.Mathlib.Numerals.{add-one}
 use native.Mathlib.Omega.{arith}
-use lib.ListN.{length, getD, take, drop, length-drop, drop-of-length-le}
-use lib.Seq.{take-suc, drop-cons, drop-drop}
-use Rattle.text.proofs.DropSteps.{rest}
+use lib.Dec.{ltb}
+use lib.ListN.{length, getD, drop, length-drop, drop-of-length-le}
+use lib.Seq.{drop-cons, drop-drop}
+use borrow.Author.Tests.{lt-leb, lt-ltb, le-ltb, ltb-true, ltb-false}
+use Rattle.text.proofs.BoolLaws.{test, within-low, within-high}
 use Rattle.text.specs.Blank.{front}
-use Rattle.text.specs.Class.{isLetter}
-use Rattle.barcodes_2d.specs.Options.{Setting, optionsOf, valuesOf, lastOr, lastOf}
-use Rattle.barcodes_2d.specs.OptionSteps.{valueOf, Leading, OptionLen, afterOption, startsWith}
-use Rattle.barcodes_2d.specs.declared.options.Wanted.{Wanted}
+use Rattle.text.specs.Class.{isDigit, isLetter}
+use Rattle.numbers.specs.Number.{valueFrom, digitsOf}
+use Rattle.barcodes_2d.specs.Options.{optionsOf, Setting}
+use Rattle.barcodes_2d.specs.OptionSteps.{valueOf, cap, held, magnitude, aloneOf, ValueAt, taken, allTaken}
+use Rattle.barcodes_2d.specs.declared.options.Options.{Options}
+use Rattle.barcodes_2d.specs.declared.options.Value.{Value}
 
--- one turn of a loop over the front of s, at place i
+no-letter : (x : ℕ) → isDigit x ≡ true → isLetter x ≡ false
+no-letter x e =
+    let h = within-high 48 57 x e in
+    simp (lt-leb 65 x (omega arith), lt-leb 97 x (omega arith))
 
-module _ (q : ℕ → Bool) (s : List ℕ) (i : ℕ) where
-  pub front-next : front q s ≡ take i s ++ front q (drop i s) → i < length s → q (getD s i 0) ≡ true → front q s ≡ take (i + 1) s ++ front q (drop (i + 1) s)
-  front-next k h e = k ∙ rw (add-one, take-suc s i 0, append-assoc, drop-cons s i 0) (simp e)
+-- 2^31 and more are none, whatever follows
 
-  pub front-stop : front q s ≡ take i s ++ front q (drop i s) → i < length s → q (getD s i 0) ≡ false → take i s ≡ front q s
-  front-stop k h e = sym (k ∙ rw (drop-cons s i 0) (simp (e, append-nil)))
+held-by : (t : Bool) (o : Option ℕ) → held o ≡ 2147483648 → held (cond t o none) ≡ 2147483648
+held-by true o h = h
+held-by false o h = refl
 
-  pub front-end : front q s ≡ take i s ++ front q (drop i s) → length s ≤ i → take i s ≡ front q s
-  front-end k h = sym (k ∙ rw (drop-of-length-le s, append-nil))
+held-big : (xs : List ℕ) (acc : ℕ) → 2147483648 ≤ acc → held (valueFrom acc xs) ≡ 2147483648
+held-big [] acc h = simp (le-ltb acc 2147483648 h)
+held-big (x ∷ xs) acc h = held-by (isDigit x) (valueFrom (acc * 10 + (x - 48)) xs) (held-big xs (acc * 10 + (x - 48)) (omega arith))
 
--- how far the reading goes on
+held-cap : (xs : List ℕ) (acc : ℕ) → held (valueFrom acc xs) ≡ held (valueFrom (cap acc) xs)
+held-cap xs acc =
+    test (ltb acc 2147483648)
+    (λ e. simp e)
+    (λ e. held-big xs acc (ltb-false acc 2147483648 e) ∙ sym (simp e (held-big xs 2147483648 (omega arith))))
 
-pub option-short : (s : List ℕ) → length s < 2 → OptionLen s (length s)
-option-short [] h = record { left = refl; fits = omega arith; some = λ p. p }
-option-short (x ∷ []) h = record { left = refl; fits = omega arith; some = λ p. p }
-option-short (x ∷ y ∷ s) h = absurd (omega arith)
+-- the digits from `from` on, read up to `end`, where they are worth v so far
+pub record Ran (s : List ℕ) (from v end : ℕ) : Type 0 where
+  pub low : from < end
+  pub high : end ≤ length s
+  pub small : v ≤ 2147483648
+  pub number : magnitude (valueOf (drop from s)) ≡ held (valueFrom v (front isDigit (drop end s)))
+  pub size : from + length (valueOf (drop from s)) ≡ end + length (front isDigit (drop end s))
 
-pub option-long : (s : List ℕ) (t : Bool) → 2 ≤ length s → (isLetter (getD s 0 0) && isLetter (getD s 1 0)) ≡ t → OptionLen s (cond t 2 1)
-option-long [] t h e = absurd (omega arith)
-option-long (x ∷ []) t h e = absurd (omega arith)
-option-long (x ∷ y ∷ s) true h e = record { left = simp e; fits = omega arith; some = λ p. omega arith }
-option-long (x ∷ y ∷ s) false h e = record { left = simp e; fits = omega arith; some = λ p. omega arith }
+front-digit : (x : ℕ) (t : List ℕ) → isDigit x ≡ true → front isDigit (x ∷ t) ≡ x ∷ front isDigit t
+front-digit x t e = simp e
 
--- what the two say of the part of s from i on
+value-digit : (x : ℕ) (t : List ℕ) → isDigit x ≡ true → valueOf (x ∷ t) ≡ x ∷ front isDigit t
+value-digit x t e = simp (no-letter x e, e)
 
-module _ (s : List ℕ) (i r : ℕ) (h : i ≤ length s) where
-  pub value-at : Leading (valueOf (take (length s - i) (drop i s))) (take (length s - i) (drop i s)) r → (take (i + r - i) (drop i s) ≡ valueOf (drop i s)) × (i + r ≤ length s)
-  value-at l =
-      let k : Leading (valueOf (drop i s)) (drop i s) r = rw (rest s i) at l in
-      let e : i + r - i ≡ r = omega arith in
-      (rw e (k .is), omega (arith, k .fits, length-drop i s))
+module _ (s : List ℕ) (i : ℕ) (h : i < length s) where
+  here : drop i s ≡ getD s i 0 ∷ drop (i + 1) s
+  here = rw add-one (drop-cons s i 0 h)
 
-  pub option-at : OptionLen (take (length s - i) (drop i s)) r → (drop (i + r) s ≡ afterOption (drop i s)) × (i + r ≤ length s) × (i < length s → 0 < r)
-  option-at l =
-      let k : OptionLen (drop i s) r = rw (rest s i) at l in
-      (sym (drop-drop r i s) ∙ k .left, omega (arith, k .fits, length-drop i s), λ p. k .some (rw length-drop (omega arith)))
+  module _ (e : isDigit (getD s i 0) ≡ true) where
+    pub value-here : valueOf (drop i s) ≡ getD s i 0 ∷ front isDigit (drop (i + 1) s)
+    value-here = ap valueOf here ∙ value-digit (getD s i 0) (drop (i + 1) s) e
 
--- the last value of p that counts, v where none does; v is that of the parameters before
-abbrev pub lastFrom : Wanted → ℕ → List ℕ → List Setting → List ℕ
-lastFrom w p v os = lastOr v (valuesOf w p os)
+    pub ran-first : Ran s i (getD s i 0 - 48) (i + 1)
+    ran-first =
+        let x = getD s i 0 in
+        record {
+          low = omega arith;
+          high = omega arith;
+          small = omega (arith, within-high 48 57 x e);
+          number = ap magnitude value-here ∙ (simp e (ap (λ (n : ℕ). held (valueFrom n (front isDigit (drop (i + 1) s)))) (omega arith)));
+          size = rw value-here (omega arith);
+        }
 
-last-cons : (b : Bool) (x v : List ℕ) (vs : List (List ℕ)) → lastOr v (cond b (x ∷ vs) vs) ≡ lastOr (cond b x v) vs
-last-cons true x v vs = refl
-last-cons false x v vs = refl
+    pub ran-digit : (from v : ℕ) → Ran s from v i → Ran s from (cap (v * 10 + (getD s i 0 - 48))) (i + 1)
+    ran-digit from v r =
+        let x = getD s i 0 in
+        let f : front isDigit (drop i s) ≡ x ∷ front isDigit (drop (i + 1) s) = ap (front isDigit) here ∙ front-digit x (drop (i + 1) s) e in
+        record {
+          low = omega (arith, r .low);
+          high = omega arith;
+          small = test (ltb (v * 10 + (x - 48)) 2147483648) (λ d. rw d (omega (arith, ltb-true (v * 10 + (x - 48)) 2147483648 d))) (λ d. rw d (omega arith));
+          number = r .number ∙ ap (λ (l : List ℕ). held (valueFrom v l)) f ∙ (simp e (held-cap (front isDigit (drop (i + 1) s)) (v * 10 + (x - 48))));
+          size = r .size ∙ ap (λ (l : List ℕ). i + length l) f ∙ omega arith;
+        }
 
--- the parameter at the front, then those behind it
-step-by : (x y : ℕ) (s : List ℕ) (a b : Bool) → isLetter x ≡ a → isLetter y ≡ b → (w : Wanted) (p : ℕ) (v : List ℕ) → lastFrom w p v (optionsOf (x ∷ y ∷ s)) ≡ lastFrom w p (cond (startsWith w p (x ∷ y ∷ s)) (valueOf (y ∷ s)) v) (optionsOf (afterOption (x ∷ y ∷ s)))
+  pub front-stop : isDigit (getD s i 0) ≡ false → front isDigit (drop i s) ≡ []
+  front-stop e = ap (front isDigit) here ∙ simp e
+
+pub front-end : (s : List ℕ) (i : ℕ) → length s ≤ i → front isDigit (drop i s) ≡ []
+front-end s i h = rw (drop-of-length-le s {i = i} h) refl
+
+-- a value of one byte, and any other
+one : (v : List ℕ) → length v ≡ 1 → aloneOf v ≡ getD v 0 0
+one [] h = absurd (omega arith)
+one (b ∷ []) h = refl
+one (b ∷ c ∷ v) h = absurd (omega arith)
+
+other : (v : List ℕ) → (length v ≡ 1 → ⊥) → aloneOf v ≡ 0
+other [] h = refl
+other (b ∷ []) h = absurd (h refl)
+other (b ∷ c ∷ v) h = refl
+
+cap-small : (v : ℕ) → v ≤ 2147483648 → cap v ≡ v
+cap-small v h =
+    test (ltb v 2147483648)
+    (λ e. simp e)
+    (λ e. simp e (omega (arith, ltb-false v 2147483648 e)))
+
+-- where the digits end, the value is read
+module _ {s : List ℕ} {from v end : ℕ} (r : Ran s from v end) (z : front isDigit (drop end s) ≡ []) where
+  ends : end ≡ from + length (valueOf (drop from s))
+  ends = sym (r .size ∙ ap (λ (l : List ℕ). end + length l) z ∙ omega arith)
+
+  pub ran-value : (a : ℕ) → a ≡ aloneOf (valueOf (drop from s)) → ValueAt s from (record { number = v; alone = a; next = end })
+  ran-value a e =
+      record {
+        number = sym (r .number ∙ ap (λ (l : List ℕ). held (valueFrom v l)) z ∙ cap-small v (r .small));
+        alone = e;
+        next = ends;
+        fits = r .high;
+      }
+
+  pub ran-alone : from < length s → isDigit (getD s from 0) ≡ true → end ≡ from + 1 → getD s from 0 ≡ aloneOf (valueOf (drop from s))
+  ran-alone h d e = sym (one (valueOf (drop from s)) (omega (arith, ends)) ∙ ap (λ (l : List ℕ). getD l 0 0) (value-here s from h d))
+
+  pub ran-more : (end ≡ from + 1 → ⊥) → 0 ≡ aloneOf (valueOf (drop from s))
+  ran-more n = sym (other (valueOf (drop from s)) (λ e. n (omega (arith, ends))))
+
+-- a letter, and neither
+
+module _ (s : List ℕ) (i : ℕ) (h : i < length s) where
+  pub letter-value : isLetter (getD s i 0) ≡ true → isDigit (getD s i 0) ≡ false → ValueAt s i (record { number = 2147483648; alone = getD s i 0; next = i + 1 })
+  letter-value e d =
+      let v : valueOf (drop i s) ≡ getD s i 0 ∷ [] = ap valueOf (here s i h) ∙ simp e in
+      record { number = sym (ap magnitude v ∙ simp d); alone = sym (ap aloneOf v); next = sym (rw v (omega arith)); fits = omega arith }
+
+  pub no-value : isLetter (getD s i 0) ≡ false → isDigit (getD s i 0) ≡ false → ValueAt s i (record { number = 2147483648; alone = 0; next = i })
+  no-value e d =
+      let v : valueOf (drop i s) ≡ [] = ap valueOf (here s i h) ∙ simp (e, d) in
+      record { number = sym (ap magnitude v); alone = sym (ap aloneOf v); next = sym (rw v (omega arith)); fits = omega arith }
+
+pub end-value : (s : List ℕ) (i : ℕ) → i ≤ length s → length s ≤ i → ValueAt s i (record { number = 2147483648; alone = 0; next = i })
+end-value s i l h =
+    let v : valueOf (drop i s) ≡ [] = ap valueOf (drop-of-length-le s {i = i} h) in
+    record { number = sym (ap magnitude v); alone = sym (ap aloneOf v); next = sym (rw v (omega arith)); fits = l }
+
+-- what is no letter is passed over
+pass : (x : ℕ) (t : List ℕ) → isLetter x ≡ false → optionsOf (x ∷ t) ≡ optionsOf t
 unfolding optionsOf
-step-by x y s true true d e w p v = simp (d, e, last-cons)
-step-by x y s true false d e w p v = simp (d, e, last-cons)
-step-by x y s false b d e w p v = simp d
+pass x [] e = simp e
+pass x (y ∷ t) e = simp e
 
-step-one : (x : ℕ) (a : Bool) → isLetter x ≡ a → (w : Wanted) (p : ℕ) (v : List ℕ) → lastFrom w p v (optionsOf (x ∷ [])) ≡ cond (startsWith w p (x ∷ [])) [] v
+-- and so are digits
+skip-by : (x : ℕ) (t : List ℕ) (a : Bool) → isDigit x ≡ a → optionsOf (drop (length (front isDigit t)) t) ≡ optionsOf t → optionsOf (drop (length (front isDigit (x ∷ t))) (x ∷ t)) ≡ optionsOf (x ∷ t)
+skip-by x t true e ih = simp e (ih ∙ sym (pass x t (no-letter x e)))
+skip-by x t false e ih = simp e
+
+skip : (s : List ℕ) → optionsOf (drop (length (front isDigit s)) s) ≡ optionsOf s
+skip [] = refl
+skip (x ∷ t) = skip-by x t (isDigit x) refl (skip t)
+
+-- a letter, its value, and the rest behind it
+first-by : (x y : ℕ) (t : List ℕ) (a : Bool) → isLetter y ≡ a → isLetter x ≡ true → optionsOf (x ∷ y ∷ t) ≡ record { letter = x; value = valueOf (y ∷ t) } ∷ optionsOf (drop (length (valueOf (y ∷ t))) (y ∷ t))
 unfolding optionsOf
-step-one x true d w p v = simp (d, last-cons)
-step-one x false d w p v = simp d
+first-by x y t true d e = simp (d, e)
+first-by x y t false d e = simp (d, e) (ap (λ (os : List Setting). record { letter = x; value = front isDigit (y ∷ t) } ∷ os) (sym (skip (y ∷ t))))
 
-last-step : (w : Wanted) (p : ℕ) (v s : List ℕ) → 0 < length s → lastFrom w p v (optionsOf s) ≡ lastFrom w p (cond (startsWith w p s) (valueOf (drop 1 s)) v) (optionsOf (afterOption s))
+first : (x : ℕ) (t : List ℕ) → isLetter x ≡ true → optionsOf (x ∷ t) ≡ record { letter = x; value = valueOf t } ∷ optionsOf (drop (length (valueOf t)) t)
 unfolding optionsOf
-last-step w p v [] h = absurd (omega arith)
-last-step w p v (x ∷ []) h = step-one x (isLetter x) refl w p v
-last-step w p v (x ∷ y ∷ s) h = step-by x y s (isLetter x) (isLetter y) refl refl w p v
+first x [] e = simp e
+first x (y ∷ t) e = first-by x y t (isLetter y) refl e
 
--- the last p that counts before at stands at from to to
-pub record Last (w : Wanted) (p : ℕ) (s : List ℕ) (from to at : ℕ) : Type 0 where
-  pub order : from ≤ to
-  pub inside : to ≤ length s
-  pub place : at ≤ length s
-  pub is : lastFrom w p [] (optionsOf s) ≡ lastFrom w p (take (to - from) (drop from s)) (optionsOf (drop at s))
+-- one turn of the loop, at a place of s
+module _ (s : List ℕ) (i : ℕ) (h : i < length s) (k : Options) where
+  pub turn-pass : isLetter (getD s i 0) ≡ false → allTaken k (optionsOf (drop i s)) ≡ allTaken k (optionsOf (drop (i + 1) s))
+  turn-pass e = ap (λ (t : List ℕ). allTaken k (optionsOf t)) (here s i h) ∙ ap (allTaken k) (pass (getD s i 0) (drop (i + 1) s) e)
 
-pub last-none : (w : Wanted) (p : ℕ) (s : List ℕ) → Last w p s 0 0 0
-last-none w p s = record { order = omega arith; inside = omega arith; place = omega arith; is = refl }
+  pub turn-taken : (v : Value) → isLetter (getD s i 0) ≡ true → ValueAt s (i + 1) v → allTaken k (optionsOf (drop i s)) ≡ allTaken (taken k (getD s i 0) (v .number) (v .alone)) (optionsOf (drop (v .next) s))
+  turn-taken v e a =
+      ap (λ (t : List ℕ). allTaken k (optionsOf t)) (here s i h)
+      ∙ ap (allTaken k) (first (getD s i 0) (drop (i + 1) s) e)
+      ∙ rw (a .number, a .alone, a .next, drop-drop (length (valueOf (drop (i + 1) s))) (i + 1) s) refl
 
-module _ {w : Wanted} {p : ℕ} {s : List ℕ} {from to at : ℕ} (l : Last w p s from to at) where
-  module _ (h : at < length s) where
-    at-step : (k : ℕ) → drop (at + k) s ≡ afterOption (drop at s) → lastFrom w p [] (optionsOf s) ≡ lastFrom w p (cond (startsWith w p (take (length s - at) (drop at s))) (valueOf (drop 1 (drop at s))) (take (to - from) (drop from s))) (optionsOf (drop (at + k) s))
-    at-step k e = l .is ∙ last-step w p (take (to - from) (drop from s)) (drop at s) (rw length-drop (omega arith)) ∙ rw (e, rest s at)
-
-    pub last-found : {r k : ℕ} → startsWith w p (take (length s - at) (drop at s)) ≡ true → Leading (valueOf (take (length s - (at + 1)) (drop (at + 1) s))) (take (length s - (at + 1)) (drop (at + 1) s)) r → OptionLen (take (length s - at) (drop at s)) k → Last w p s (at + 1) (at + 1 + r) (at + k)
-    last-found {r} {k} e v o =
-        let x = value-at s (at + 1) r (omega arith) v in
-        let y = option-at s at k (l .place) o in
-        record { order = omega arith; inside = x .1; place = y .1; is = at-step k (y .0) ∙ simp (e, drop-drop, x .0) }
-
-    pub last-other : {k : ℕ} → startsWith w p (take (length s - at) (drop at s)) ≡ false → OptionLen (take (length s - at) (drop at s)) k → Last w p s from to (at + k)
-    last-other {k} e o =
-        let y = option-at s at k (l .place) o in
-        record { order = l .order; inside = l .inside; place = y .1; is = at-step k (y .0) ∙ simp e }
-
-  pub last-end : length s ≤ at → take (to - from) (drop from s) ≡ lastOf w p (optionsOf s)
-  unfolding optionsOf
-  last-end h = sym (l .is ∙ rw (drop-of-length-le s {i = at} h))
+-- at the end nothing is left
+pub turn-end : (s : List ℕ) (i : ℕ) (k : Options) → length s ≤ i → allTaken k (optionsOf (drop i s)) ≡ k
+unfolding optionsOf
+turn-end s i k h = rw (drop-of-length-le s {i = i} h) refl

@@ -1,14 +1,21 @@
 // `b`: 2D bar codes. Fields: x, y, type, parameters.
 ghost use mathlib.Core.Path.{_≡_};
+ghost use mathlib.Core.Bool.{not};
+ghost use Prim.Native.Nat.{_≤_};
+ghost use lib.Dec.{leb};
+ghost use lib.IntN.{pos, _*ℤ_};
+ghost use lib.ListN.{length};
+ghost use lib.Signed.{mag};
+ghost use Rattle.text.specs.Utf8.{decode};
 ghost use Rattle.parameters.specs.Params.{typeAt};
 ghost use Rattle.text.specs.Fields.{after};
-ghost use Rattle.barcodes_2d.specs.Barcode2d.{symbologyOf, aztecSize, aztecOf, datamatrixOf, modeOf, pdf417ModuleWidth, pdf417RowHeight, pdf417Truncate, pdf417Of, levelOf, qrOf, aztecReading, datamatrixReading, maxicodeReading, pdf417Reading, qrReading, barcode2dAt, barcode2dReading};
+ghost use Rattle.barcodes_2d.specs.Options.{clampedOr};
+ghost use Rattle.barcodes_2d.specs.OptionSteps.{levelByte, numberOf};
+ghost use Rattle.barcodes_2d.specs.Barcode2d.{symbologyOf, aztecSize, aztecOf, datamatrixOf, modeOf, pdf417Of, aztecReading, datamatrixReading, maxicodeReading, pdf417Reading, qrReading, barcode2dAt, barcode2dReading};
 use crate::maxicode::auto_maxicode_mode;
-use crate::options::Wanted;
-use crate::options::last;
-use crate::options::last_clamped;
-use crate::options::last_count;
-use crate::options::last_number;
+use crate::options::clamped_or;
+use crate::options::number_or;
+use crate::options::options_of;
 use bytes::scan::find;
 use bytes::utf8::decoded_len;
 use elements::BarcodeAztec;
@@ -27,8 +34,8 @@ use elements::MaxicodeWithData;
 use elements::QrErrorCorrectionLevel;
 use elements::refusal::Refusal;
 use numbers::blank::trim;
-use parameters::params::has_fields;
 use parameters::params::point_from;
+use parameters::params::reaches;
 use parameters::params::rest_from;
 use parameters::position::Placed;
 use parameters::position::place;
@@ -75,14 +82,14 @@ pub(crate) fn aztec_size(n: i32) -> i32
 pub(crate) fn aztec_options(s: &[u8]) -> BarcodeAztec
     ensures { λ r. ⌜ r ≡ aztecOf (now (s .entry)) ⌝ }
 {
-    let magnification = last_clamped(
-        s,
-        b'd',
+    let o = options_of(s);
+    let magnification = clamped_or(
+        o.d,
         BarcodeAztec::MAGNIFICATION,
         BarcodeAztec::MAGNIFICATION_MIN,
         BarcodeAztec::MAGNIFICATION_MAX,
     );
-    let size = aztec_size(last_number(s, b'e', BarcodeAztec::SIZE));
+    let size = aztec_size(number_or(o.e, BarcodeAztec::SIZE));
     BarcodeAztec {
         magnification,
         size,
@@ -92,15 +99,15 @@ pub(crate) fn aztec_options(s: &[u8]) -> BarcodeAztec
 pub(crate) fn datamatrix_options(s: &[u8]) -> BarcodeDatamatrix
     ensures { λ r. ⌜ r ≡ datamatrixOf (now (s .entry)) ⌝ }
 {
-    let height = last_clamped(
-        s,
-        b'h',
+    let o = options_of(s);
+    let height = clamped_or(
+        o.h,
         BarcodeDatamatrix::HEIGHT,
         BarcodeDatamatrix::HEIGHT_MIN,
         BarcodeDatamatrix::HEIGHT_MAX,
     );
-    let columns = last_count(s, b'c');
-    let rows = last_count(s, b'r');
+    let columns = number_or(o.c, 0);
+    let rows = number_or(o.r, 0);
     BarcodeDatamatrix {
         height,
         columns,
@@ -112,102 +119,68 @@ pub(crate) fn datamatrix_options(s: &[u8]) -> BarcodeDatamatrix
 pub(crate) fn maxicode_mode(s: &[u8], data: &[u8]) -> i32
     ensures { λ r. ⌜ r ≡ modeOf (now (s .entry)) (now («data» .entry)) ⌝ }
 {
-    let m = last_count(s, b'm');
+    let o = options_of(s);
+    let m = number_or(o.m, 0);
     match m {
         2 | 3 | 4 | 6 => m,
         _ => auto_maxicode_mode(data),
     }
 }
 
-pub(crate) fn pdf417_module_width(s: &[u8]) -> i32
-    ensures { λ r. ⌜ r ≡ pdf417ModuleWidth (now (s .entry)) ⌝ }
-{
-    last_clamped(
-        s,
-        b'x',
-        BarcodePdf417::MODULE_WIDTH,
-        BarcodePdf417::MODULE_WIDTH_MIN,
-        BarcodePdf417::MODULE_WIDTH_MAX,
-    )
-}
-
 // 4 module widths where `y` gives none.
-pub(crate) fn pdf417_row_height(s: &[u8]) -> i32
-    ensures { λ r. ⌜ r ≡ pdf417RowHeight (now (s .entry)) ⌝ }
+fn pdf417_row_height(y: u32, module_width: i32) -> i32
+    requires { ⌜ mag module_width ≤ 9 ⌝ }
+    ensures { λ r. ⌜ r ≡ clampedOr (pos 4 *ℤ module_width) (pos 4) (pos 99) (numberOf y) ⌝ }
 {
-    let module_width = pdf417_module_width(s);
-    last_clamped(
-        s,
-        b'y',
+    clamped_or(
+        y,
         BarcodePdf417::ROW_HEIGHT_MODULES * module_width,
         BarcodePdf417::ROW_HEIGHT_MIN,
         BarcodePdf417::ROW_HEIGHT_MAX,
     )
 }
 
-// `t1`, and no other value.
-pub(crate) fn pdf417_truncate(s: &[u8]) -> bool
-    ensures { λ r. ⌜ r ≡ pdf417Truncate (now (s .entry)) ⌝ }
-{
-    let v = last(s, b't', Wanted::Any);
-    if v.len() == 1 { v[0] == b'1' } else { false }
-}
-
 pub(crate) fn pdf417_options(s: &[u8]) -> BarcodePdf417
     ensures { λ r. ⌜ r ≡ pdf417Of (now (s .entry)) ⌝ }
 {
-    let orientation = epl_rotation(last_number(s, b'o', BarcodePdf417::ROTATION));
-    let row_height = pdf417_row_height(s);
-    let security = last_clamped(
-        s,
-        b's',
+    let o = options_of(s);
+    let orientation = epl_rotation(number_or(o.o, BarcodePdf417::ROTATION));
+    let module_width = clamped_or(
+        o.x,
+        BarcodePdf417::MODULE_WIDTH,
+        BarcodePdf417::MODULE_WIDTH_MIN,
+        BarcodePdf417::MODULE_WIDTH_MAX,
+    );
+    let row_height = pdf417_row_height(o.y, module_width);
+    let security = clamped_or(
+        o.s,
         BarcodePdf417::SECURITY,
         BarcodePdf417::SECURITY_MIN,
         BarcodePdf417::SECURITY_MAX,
     );
-    let columns = last_count(s, b'l');
-    let rows = last_count(s, b'r');
-    let truncate = pdf417_truncate(s);
-    let module_width = pdf417_module_width(s);
+    let columns = number_or(o.l, 0);
+    let rows = number_or(o.r, 0);
     BarcodePdf417 {
         orientation,
         row_height,
         security,
         columns,
         rows,
-        truncate,
+        truncate: o.truncate,
         module_width,
     }
 }
 
-// The level of the last `e` that gives one: M where none does.
-pub(crate) fn qr_level(s: &[u8]) -> QrErrorCorrectionLevel
-    ensures { λ r. ⌜ r ≡ levelOf (now (s .entry)) ⌝ }
+// The level of its letter: M where there is none.
+pub(crate) fn qr_level(b: u8) -> QrErrorCorrectionLevel
+    ensures { λ r. ⌜ r ≡ levelByte b ⌝ }
 {
-    let v = last(s, b'e', Wanted::Level);
-    if v.len() == 0 {
-        return QrErrorCorrectionLevel::M;
-    }
-    let b = v[0];
     match b {
         b'L' => QrErrorCorrectionLevel::L,
         b'Q' => QrErrorCorrectionLevel::Q,
         b'H' => QrErrorCorrectionLevel::H,
         _ => QrErrorCorrectionLevel::M,
     }
-}
-
-pub(crate) fn qr_options(s: &[u8]) -> BarcodeQr
-    ensures { λ r. ⌜ r ≡ qrOf (now (s .entry)) ⌝ }
-{
-    let magnification = last_clamped(
-        s,
-        b's',
-        BarcodeQr::MAGNIFICATION,
-        BarcodeQr::MAGNIFICATION_MIN,
-        BarcodeQr::MAGNIFICATION_MAX,
-    );
-    BarcodeQr { magnification }
 }
 
 // One function a type: its parameters, and where it stands.
@@ -267,21 +240,36 @@ pub(crate) fn pdf417(s: &[u8], at: Placed, span: DataSpan) -> LineReading
     }))
 }
 
+// The decoded data is over its limit. A byte is decoded to three at most, so that short data is not counted.
+fn is_over(data: &[u8]) -> bool
+    ensures { λ r. ⌜ r ≡ not (leb (length (decode (now («data» .entry)))) 9999) ⌝ }
+{
+    if data.len() <= BarcodeQr::DATA_MAX / 3 {
+        return false;
+    }
+    BarcodeQr::DATA_MAX < decoded_len(data, BarcodeQr::DATA_MAX + 1)
+}
+
 // 9 where the decoded data is over its limit, then 13.
 pub(crate) fn qr(s: &[u8], data: &[u8], at: Placed, span: DataSpan) -> LineReading
     ensures { λ r. ⌜ r ≡ qrReading (now (s .entry)) (now («data» .entry)) at span ⌝ }
 {
-    let count = decoded_len(data, BarcodeQr::DATA_MAX + 1);
-    if BarcodeQr::DATA_MAX < count {
+    if is_over(data) {
         return LineReading::Refused(Refusal::QrData);
     }
     let Placed::At(position) = at else {
         return LineReading::Refused(Refusal::OutOfRange);
     };
-    let barcode = qr_options(s);
-    let error_correction = qr_level(s);
+    let o = options_of(s);
+    let magnification = clamped_or(
+        o.s,
+        BarcodeQr::MAGNIFICATION,
+        BarcodeQr::MAGNIFICATION_MIN,
+        BarcodeQr::MAGNIFICATION_MAX,
+    );
+    let error_correction = qr_level(o.level);
     LineReading::Element(LabelElement::BarcodeQr(BarcodeQrWithData {
-        barcode,
+        barcode: BarcodeQr { magnification },
         error_correction,
         position,
         data: span,
@@ -326,10 +314,10 @@ pub fn parse_epl_2d_barcode(
 ) -> LineReading
     ensures { λ r. ⌜ r ≡ barcode2dReading (now (params .entry)) (now («data» .entry)) span reference ⌝ }
 {
-    if !has_fields(params, 3) {
+    let p = point_from(params, 0);
+    if !reaches(p.next < params.len(), params, 3) {
         return LineReading::Refused(Refusal::Barcode2dFields);
     }
-    let p = point_from(params, 0);
     let point = p.point;
     let at = place(point.x, point.y, reference);
     typed_2d(rest_from(params, p.next), data, at, span)

@@ -1,57 +1,20 @@
 // The parameters of `b` behind its type: a letter and its value, a run of digits or one letter, several in a field.
-// A comma is neither letter nor digit, so that the fields need no splitting. Each function looks at a byte a fixed
-// number of times.
+// A comma is neither letter nor digit, so that the fields need no splitting. One pass takes what every type asks for.
 ghost use mathlib.Core.Path.{_≡_};
+ghost use mathlib.Core.Bool.{true};
+ghost use Prim.Native.Nat.{_+_, _-_, _*_, _<_, _≤_};
+ghost use lib.ListN.{length, getD};
 ghost use Rattle.text.specs.Class.{isDigit};
-ghost use Rattle.text.specs.Blank.{front};
-ghost use Rattle.barcodes_2d.specs.OptionSteps.{valueOf, Leading, OptionLen, startsWith};
-ghost use Rattle.barcodes_2d.specs.Options.{isNumber, isLevel, accepted, lastOf, lastCount, lastNumber, clamped, lastClamped, optionsOf};
+ghost use Rattle.numbers.specs.Number.{numberOr};
+ghost use Rattle.barcodes_2d.specs.Options.{clamped, clampedOr, optionsOf};
+ghost use Rattle.barcodes_2d.specs.OptionSteps.{cap, ValueAt, numberOver, levelOver, taken};
+ghost use Rattle.barcodes_2d.specs.OptionSteps.{noOptions, allTaken, numberOf};
 use bytes::class::is_digit;
 use bytes::class::is_letter;
 use numbers::int::max;
 use numbers::int::min;
-use numbers::number::Number;
-use numbers::number::or_default;
-use numbers::number::parse;
 
-// How many digits s starts with.
-pub(crate) fn digit_run(s: &[u8]) -> usize
-    ensures { λ r. ⌜ Leading (front isDigit (now (s .entry))) (now (s .entry)) r ⌝ }
-{
-    let mut i = 0;
-    while i < s.len() && is_digit(s[i]) {
-        i += 1;
-    }
-    i
-}
-
-// How long the value of a letter is, where s is all that follows the letter.
-pub(crate) fn value_len(s: &[u8]) -> usize
-    ensures { λ r. ⌜ Leading (valueOf (now (s .entry))) (now (s .entry)) r ⌝ }
-{
-    if s.len() == 0 {
-        return 0;
-    }
-    if is_letter(s[0]) {
-        return 1;
-    }
-    digit_run(s)
-}
-
-// How many bytes the reading goes on by: the first, and the letter behind it where both are letters.
-pub(crate) fn option_len(s: &[u8]) -> usize
-    ensures { λ r. ⌜ OptionLen (now (s .entry)) r ⌝ }
-{
-    if s.len() < 2 {
-        return s.len();
-    }
-    if is_letter(s[0]) & is_letter(s[1]) {
-        return 2;
-    }
-    1
-}
-
-// Which values of a parameter count.
+// Which values of a parameter count: the definitions' word for the three rules that `with_option` follows.
 pub enum Wanted {
     Any,
     // A number within 32 bits.
@@ -60,78 +23,198 @@ pub enum Wanted {
     Level,
 }
 
-pub(crate) fn is_number(v: &[u8]) -> bool
-    ensures { λ r. ⌜ r ≡ isNumber (now (v .entry)) ⌝ }
+// No number within 32 bits: a value has no sign, so that 2^31 is the least that is none.
+pub const NONE: u32 = 2147483648;
+
+// The value of a letter: its number, or NONE; its byte where it is one byte, else 0; and the place behind it.
+pub struct Value {
+    pub number: u32,
+    pub alone: u8,
+    pub next: usize,
+}
+
+// One digit more, at most 2^31.
+fn with_digit(v: u64, b: u8) -> u64
+    requires { ⌜ (v ≤ 2147483648) × (isDigit b ≡ true) ⌝ }
+    ensures { λ r. ⌜ r ≡ cap (v * 10 + (b - 48)) ⌝ }
 {
-    match parse(v) {
-        Number::Value(_) => true,
-        Number::Other => false,
+    let w = v * 10 + ((b - 48) as u64);
+    if w < 2147483648 { w } else { 2147483648 }
+}
+
+// The digits from a place on, where one stands.
+fn digits_from(s: &[u8], from: usize) -> Value
+    requires { ⌜ (from < length (now s)) × (isDigit (getD (now s) from 0) ≡ true) ⌝ }
+    ensures { λ r. ⌜ ValueAt (now (s .entry)) from r ⌝ }
+{
+    let first = s[from];
+    let mut v: u64 = (first - 48) as u64;
+    let mut end = from + 1;
+    while end < s.len() && is_digit(s[end]) {
+        v = with_digit(v, s[end]);
+        end += 1;
+    }
+    let alone = if end == from + 1 { first } else { 0 };
+    Value {
+        number: v as u32,
+        alone,
+        next: end,
     }
 }
 
-pub(crate) fn is_level(v: &[u8]) -> bool
-    ensures { λ r. ⌜ r ≡ isLevel (now (v .entry)) ⌝ }
+// The value that stands at a place, behind its letter.
+fn value_from(s: &[u8], from: usize) -> Value
+    requires { ⌜ from ≤ length (now s) ⌝ }
+    ensures { λ r. ⌜ ValueAt (now (s .entry)) from r ⌝ }
 {
-    if v.len() == 0 {
-        return false;
+    if from < s.len() {
+        let b = s[from];
+        if is_digit(b) {
+            return digits_from(s, from);
+        }
+        if is_letter(b) {
+            return Value {
+                number: NONE,
+                alone: b,
+                next: from + 1,
+            };
+        }
     }
-    let b = v[0];
-    (b == b'L') | (b == b'M') | (b == b'Q') | (b == b'H')
+    Value {
+        number: NONE,
+        alone: 0,
+        next: from,
+    }
 }
 
-pub(crate) fn accepts(wanted: Wanted, v: &[u8]) -> bool
-    ensures { λ r. ⌜ r ≡ accepted wanted (now (v .entry)) ⌝ }
+// What counts of each letter that some type has; a letter has one rule in every type, `e` one for Aztec and one for QR.
+// Of `c`, `l`, `m`, `r` the number of the last, or NONE; of the others the last number. The last level letter, or 0.
+// Whether the last `t` is 1.
+pub struct Options {
+    pub c: u32,
+    pub d: u32,
+    pub e: u32,
+    pub h: u32,
+    pub l: u32,
+    pub m: u32,
+    pub o: u32,
+    pub r: u32,
+    pub s: u32,
+    pub x: u32,
+    pub y: u32,
+    pub level: u8,
+    pub truncate: bool,
+}
+
+// The number, or the one before it.
+fn number_over(n: u32, before: u32) -> u32
+    ensures { λ r. ⌜ r ≡ numberOver n before ⌝ }
 {
-    match wanted {
-        Wanted::Any => true,
-        Wanted::Number => is_number(v),
-        Wanted::Level => is_level(v),
+    if n < NONE { n } else { before }
+}
+
+// The letter a, where it is a level; else the one before it.
+fn level_over(a: u8, before: u8) -> u8
+    ensures { λ r. ⌜ r ≡ levelOver a before ⌝ }
+{
+    if (a == b'L') | (a == b'M') | (a == b'Q') | (a == b'H') {
+        a
+    } else {
+        before
     }
 }
 
-// s starts with the parameter p, and its value counts.
-pub(crate) fn starts_with(s: &[u8], p: u8, wanted: Wanted) -> bool
-    ensures { λ r. ⌜ r ≡ startsWith wanted p (now (s .entry)) ⌝ }
+// With the parameter b: its number n, its byte a.
+fn with_option(k: Options, b: u8, n: u32, a: u8) -> Options
+    ensures { λ r. ⌜ r ≡ taken k b n a ⌝ }
 {
-    if s.len() == 0 {
-        return false;
+    let mut p = k;
+    match b {
+        b'c' => {
+            p.c = n;
+        }
+        b'd' => {
+            p.d = number_over(n, k.d);
+        }
+        b'e' => {
+            p.e = number_over(n, k.e);
+            p.level = level_over(a, k.level);
+        }
+        b'h' => {
+            p.h = number_over(n, k.h);
+        }
+        b'l' => {
+            p.l = n;
+        }
+        b'm' => {
+            p.m = n;
+        }
+        b'o' => {
+            p.o = number_over(n, k.o);
+        }
+        b'r' => {
+            p.r = n;
+        }
+        b's' => {
+            p.s = number_over(n, k.s);
+        }
+        b't' => {
+            p.truncate = a == b'1';
+        }
+        b'x' => {
+            p.x = number_over(n, k.x);
+        }
+        b'y' => {
+            p.y = number_over(n, k.y);
+        }
+        _ => {}
     }
-    if is_letter(s[0]) & (s[0] == p) {
-        let n = 1 + value_len(&s[1..]);
-        return accepts(wanted, &s[1..n]);
-    }
-    false
+    p
 }
 
-// The value of the last parameter p that counts: empty where there is none.
-pub(crate) fn last(s: &[u8], p: u8, wanted: Wanted) -> &[u8]
-    ensures { λ r. ⌜ now r ≡ lastOf wanted p (optionsOf (now (s .entry))) ⌝ }
+fn no_options() -> Options
+    ensures { λ r. ⌜ r ≡ noOptions ⌝ }
 {
-    let mut from = 0;
-    let mut to = 0;
+    Options {
+        c: NONE,
+        d: NONE,
+        e: NONE,
+        h: NONE,
+        l: NONE,
+        m: NONE,
+        o: NONE,
+        r: NONE,
+        s: NONE,
+        x: NONE,
+        y: NONE,
+        level: 0,
+        truncate: false,
+    }
+}
+
+// What the parameters s say, in one pass.
+pub(crate) fn options_of(s: &[u8]) -> Options
+    ensures { λ r. ⌜ r ≡ allTaken noOptions (optionsOf (now (s .entry))) ⌝ }
+{
+    let mut o = no_options();
     let mut at = 0;
     while at < s.len() {
-        if starts_with(&s[at..], p, wanted) {
-            from = at + 1;
-            to = from + value_len(&s[from..]);
+        let b = s[at];
+        at += 1;
+        if is_letter(b) {
+            let v = value_from(s, at);
+            o = with_option(o, b, v.number, v.alone);
+            at = v.next;
         }
-        at += option_len(&s[at..]);
     }
-    &s[from..to]
+    o
 }
 
-// The number of the last parameter p: 0 where it is none, or there is no p.
-pub(crate) fn last_count(s: &[u8], p: u8) -> i32
-    ensures { λ r. ⌜ r ≡ lastCount p (optionsOf (now (s .entry))) ⌝ }
+// The number, or the default where there is none.
+pub(crate) fn number_or(n: u32, default: i32) -> i32
+    ensures { λ r. ⌜ r ≡ numberOr default (numberOf n) ⌝ }
 {
-    or_default(parse(last(s, p, Wanted::Any)), 0)
-}
-
-// The number of the last parameter p that has one: the default where none does.
-pub(crate) fn last_number(s: &[u8], p: u8, default: i32) -> i32
-    ensures { λ r. ⌜ r ≡ lastNumber p default (optionsOf (now (s .entry))) ⌝ }
-{
-    or_default(parse(last(s, p, Wanted::Number)), default)
+    if n < NONE { n as i32 } else { default }
 }
 
 // v, or the nearest of lo and hi.
@@ -141,12 +224,13 @@ pub(crate) fn clamp(v: i32, lo: i32, hi: i32) -> i32
     min(max(v, lo), hi)
 }
 
-// The last number of p within lo to hi: the default, as it is, where there is none.
-pub(crate) fn last_clamped(s: &[u8], p: u8, default: i32, lo: i32, hi: i32) -> i32
-    ensures { λ r. ⌜ r ≡ lastClamped p default lo hi (optionsOf (now (s .entry))) ⌝ }
+// The number within lo to hi: the default, as it is, where there is none.
+pub(crate) fn clamped_or(n: u32, default: i32, lo: i32, hi: i32) -> i32
+    ensures { λ r. ⌜ r ≡ clampedOr default lo hi (numberOf n) ⌝ }
 {
-    match parse(last(s, p, Wanted::Number)) {
-        Number::Value(n) => clamp(n, lo, hi),
-        Number::Other => default,
+    if n < NONE {
+        clamp(n as i32, lo, hi)
+    } else {
+        default
     }
 }

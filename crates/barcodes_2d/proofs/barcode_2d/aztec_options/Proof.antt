@@ -1,28 +1,51 @@
 -- `barcodes_2d::barcode_2d::aztec_options` meets its contract, field by field.
 -- Assumes nothing.
+use mathlib.Core.Path.{refl}
 use borrow.Author.Needs.{needs}
+use Rattle.text.specs.Ascii.{letter}
 use Rattle.numbers.proofs.IntLaws.{back32}
 use Rattle.barcodes_2d.specs.Barcode2d.{aztecOf}
+use Rattle.barcodes_2d.specs.Options.{lastNumber, lastClamped}
+use Rattle.barcodes_2d.specs.declared.options.Options.{Options}
+use Rattle.barcodes_2d.proofs.LastLaws.{last-number}
 use Rattle.barcodes_2d.proofs.barcode_2d.aztec_options.Statement.{statement}
 use Rattle.barcodes_2d.proofs.barcode_2d.aztec_options.Tie as tie
 
-last-clamped-requires : tie.Need-last-clamped-requires
-last-clamped-requires c κs = search needs
+options-of-requires : tie.Need-options-of-requires
+options-of-requires c κs = search needs
 
-last-number-requires : tie.Need-last-number-requires
-last-number-requires c κs = search needs
+clamped-or-requires : tie.Need-clamped-or-requires
+clamped-or-requires c κs = search needs
+
+number-or-requires : tie.Need-number-or-requires
+number-or-requires c κs = search needs
 
 aztec-size-requires : tie.Need-aztec-size-requires
 aztec-size-requires c κs = search needs
 
 returns : tie.Need-returns
-unfolding aztecOf
+unfolding aztecOf lastNumber lastClamped
 returns c =
-    let x = c .before .before .last-clamped in
-    let y = c .before .last-number in
+    let x = c .before .before .clamped-or in
+    let y = c .before .number-or in
     let z = c .aztec-size in
-    rw (back32 (x .result) (x .ok), back32 (z .result) (z .ok)) (simp (x .ensures, simp (back32 (y .result) (y .ok)) at (z .ensures), y .ensures))
+    let o = c .before .before .before .options-of in
+    let s = c .before .before .before .before .before .args .s .now in
+    rw (back32 (x .result) (x .ok), back32 (z .result) (z .ok))
+    (simp (
+      x .ensures,
+      simp (back32 (y .result) (y .ok)) at (z .ensures),
+      y .ensures,
+      last-number s (o .ensures) (letter "d") (λ (k : Options). k .d) refl (λ k b n a. refl),
+      last-number s (o .ensures) (letter "e") (λ (k : Options). k .e) refl (λ k b n a. refl),
+    ))
 
 pub aztec-options-spec : {M : Type 1} → statement M
 aztec-options-spec =
-    tie.close (tie.spec last-clamped-requires last-number-requires aztec-size-requires returns)
+    tie.close
+    (tie.spec
+    options-of-requires
+    clamped-or-requires
+    number-or-requires
+    aztec-size-requires
+    returns)

@@ -1,28 +1,52 @@
 -- `barcodes_2d::barcode_2d::datamatrix_options` meets its contract, field by field.
 -- Assumes nothing.
+use mathlib.Core.Path.{refl}
 use borrow.Author.Needs.{needs}
+use Rattle.text.specs.Ascii.{letter}
 use Rattle.numbers.proofs.IntLaws.{back32}
 use Rattle.barcodes_2d.specs.Barcode2d.{datamatrixOf}
+use Rattle.barcodes_2d.specs.Options.{lastCount, lastClamped}
+use Rattle.barcodes_2d.specs.declared.options.Options.{Options}
+use Rattle.barcodes_2d.proofs.LastLaws.{last-any, last-number}
 use Rattle.barcodes_2d.proofs.barcode_2d.datamatrix_options.Statement.{statement}
 use Rattle.barcodes_2d.proofs.barcode_2d.datamatrix_options.Tie as tie
 
-last-clamped-requires : tie.Need-last-clamped-requires
-last-clamped-requires c κs = search needs
+options-of-requires : tie.Need-options-of-requires
+options-of-requires c κs = search needs
 
-last-count-requires : tie.Need-last-count-requires
-last-count-requires c κs = search needs
+clamped-or-requires : tie.Need-clamped-or-requires
+clamped-or-requires c κs = search needs
 
-last-count-requires-2 : tie.Need-last-count-requires-2
-last-count-requires-2 c κs = search needs
+number-or-requires : tie.Need-number-or-requires
+number-or-requires c κs = search needs
+
+number-or-requires-2 : tie.Need-number-or-requires-2
+number-or-requires-2 c κs = search needs
 
 returns : tie.Need-returns
-unfolding datamatrixOf
+unfolding datamatrixOf lastCount lastClamped
 returns c =
-    let x = c .before .before .last-clamped in
-    let y = c .before .last-count in
-    let z = c .last-count2 in
-    rw (back32 (x .result) (x .ok), back32 (y .result) (y .ok), back32 (z .result) (z .ok)) (simp (x .ensures, y .ensures, z .ensures))
+    let x = c .before .before .clamped-or in
+    let y = c .before .number-or in
+    let z = c .number-or2 in
+    let o = c .before .before .before .options-of in
+    let s = c .before .before .before .before .before .args .s .now in
+    rw (back32 (x .result) (x .ok), back32 (y .result) (y .ok), back32 (z .result) (z .ok))
+    (simp (
+      x .ensures,
+      y .ensures,
+      z .ensures,
+      last-number s (o .ensures) (letter "h") (λ (k : Options). k .h) refl (λ k b n a. refl),
+      last-any s (o .ensures) (letter "c") (λ (k : Options). k .c) refl (λ k b n a. refl),
+      last-any s (o .ensures) (letter "r") (λ (k : Options). k .r) refl (λ k b n a. refl),
+    ))
 
 pub datamatrix-options-spec : {M : Type 1} → statement M
 datamatrix-options-spec =
-    tie.close (tie.spec last-clamped-requires last-count-requires last-count-requires-2 returns)
+    tie.close
+    (tie.spec
+    options-of-requires
+    clamped-or-requires
+    number-or-requires
+    number-or-requires-2
+    returns)

@@ -2,7 +2,9 @@
 -- Assumes nothing.
 use mathlib.Core.Path.{_≡_, refl, sym, ap, _∙_}
 use mathlib.Core.Bool.{false}
+use mathlib.Core.List.{List}
 use mathlib.Core.Logic.{⊎-elim}
+use Prim.Native.Nat.{ℕ}
 use lib.Dec.{lit<}
 use lib.IntN.{ℤ, pos}
 use mir.Syntax.{w32}
@@ -11,30 +13,42 @@ use borrow.Author.Needs.{needs}
 use Rattle.text.specs.Ascii.{letter}
 use Rattle.numbers.proofs.IntLaws.{back32, bits-is, bits-not}
 use Rattle.numbers.specs.Int.{eqZ}
+use Rattle.numbers.specs.Number.{numberOr}
 use Rattle.barcodes_2d.specs.Barcode2d.{isMode, modeOf}
 use Rattle.barcodes_2d.specs.Options.{optionsOf, lastCount}
+use Rattle.barcodes_2d.specs.declared.options.Options.{Options}
+use Rattle.barcodes_2d.proofs.LastLaws.{last-any}
 use Rattle.barcodes_2d.proofs.Barcode2dLaws.{mode-tests}
 use Rattle.barcodes_2d.proofs.barcode_2d.maxicode_mode.Statement.{statement}
 use Rattle.barcodes_2d.proofs.barcode_2d.maxicode_mode.Tie as tie
 
+abbrev from : tie.After-number-or → List ℕ
+from d = d .before .before .before .before .args .s .now
+
 -- the number of the last m, as the tests read it
-abbrev read : tie.After-last-count → ℤ
-read d = toZ w32 (ofZ w32 (d .last-count .result))
+abbrev read : tie.After-number-or → ℤ
+read d = toZ w32 (ofZ w32 (d .number-or .result))
 
-is : (d : tie.After-last-count) → read d ≡ lastCount (letter "m") (optionsOf (d .before .before .before .args .s .now))
-is d = back32 (d .last-count .result) (d .last-count .ok) ∙ d .last-count .ensures
+is : (d : tie.After-number-or) → read d ≡ lastCount (letter "m") (optionsOf (from d))
+unfolding lastCount
+is d =
+    back32 (d .number-or .result) (d .number-or .ok) ∙ d .number-or .ensures
+    ∙ ap (numberOr (pos 0)) (sym (last-any (from d) (d .before .options-of .ensures) (letter "m") (λ (k : Options). k .m) refl (λ k b n a. refl)))
 
-other : (d : tie.Joined1) → isMode (lastCount (letter "m") (optionsOf (d .before .before .before .before .before .args .s .now))) ≡ false
+other : (d : tie.Joined1) → isMode (lastCount (letter "m") (optionsOf (from (d .before .before)))) ≡ false
 other d =
     let m = d .before .before in
-    let r = m .last-count .result in
-    let h = m .last-count .ok in
+    let r = m .number-or .result in
+    let h = m .number-or .ok in
     let six = ap (λ (z : ℤ). eqZ z (pos 6)) (back32 r h) ∙ bits-not r 6 h (lit< tt) (d .before .match .rest .1) in
     ap isMode (sym (is m))
     ∙ ⊎-elim (λ v. mode-tests (read m) (v .taken) refl six) (λ v. mode-tests (read m) (v .0 .left) (v .1 .left) six) (d .if1 .came)
 
-last-count-requires : tie.Need-last-count-requires
-last-count-requires c κs = search needs
+options-of-requires : tie.Need-options-of-requires
+options-of-requires c κs = search needs
+
+number-or-requires : tie.Need-number-or-requires
+number-or-requires c κs = search needs
 
 auto-maxicode-mode-requires : tie.Need-auto-maxicode-mode-requires
 auto-maxicode-mode-requires c κs = search needs
@@ -46,9 +60,9 @@ returns c = simp (other (c .before)) (back32 (c .auto-maxicode-mode .result) (c 
 returns-2 : tie.Need-returns-2
 unfolding modeOf
 returns-2 c =
-    let m = c .before .last-count in
+    let m = c .before .number-or in
     let e = bits-is (m .result) 6 (m .ok) (lit< tt) (c .match .keys1) in
-    simp (sym (m .ensures) ∙ e, e)
+    simp (sym (is (c .before)) ∙ back32 (m .result) (m .ok) ∙ e, e)
 
 returns-3 : tie.Need-returns-3
 unfolding modeOf
@@ -59,4 +73,4 @@ returns-3 c =
 pub maxicode-mode-spec : {M : Type 1} → statement M
 maxicode-mode-spec =
     tie.close
-    (tie.spec last-count-requires auto-maxicode-mode-requires returns returns-2 returns-3)
+    (tie.spec options-of-requires number-or-requires auto-maxicode-mode-requires returns returns-2 returns-3)

@@ -1,28 +1,29 @@
 -- `barcodes_2d::barcode_2d::qr` meets its contract, by the count of the decoded data, then by where it stands.
 -- Assumes nothing.
-use mathlib.Core.Path.{_≡_}
+use mathlib.Core.Path.{_≡_, refl, sym, _∙_}
 use mathlib.Core.Bool.{true, false}
-use native.Mathlib.Omega.{arith}
 use lib.Dec.{leb}
 use lib.ListN.{length}
 use borrow.Author.Needs.{needs}
-use borrow.Author.Tests.{le-leb, lt-leb}
+use Rattle.text.specs.Ascii.{letter}
 use Rattle.text.specs.Utf8.{decode}
-use Rattle.barcodes_2d.specs.Barcode2d.{qrReading}
+use borrow.Author.Tests.{not-true, not-false}
+use Rattle.numbers.proofs.IntLaws.{back32}
+use Rattle.barcodes_2d.specs.Barcode2d.{qrOf, qrReading}
+use Rattle.barcodes_2d.specs.Options.{lastClamped}
+use Rattle.barcodes_2d.specs.declared.options.Options.{Options}
+use Rattle.barcodes_2d.proofs.LastLaws.{last-number, last-level}
 use Rattle.barcodes_2d.proofs.barcode_2d.qr.Statement.{statement}
 use Rattle.barcodes_2d.proofs.barcode_2d.qr.Tie as tie
 
 over : (d : tie.Then1) → leb (length (decode (d .before .before .before .before .args .«data» .now))) 9999 ≡ false
-over d = let t = decode (d .before .before .before .before .args .«data» .now) in lt-leb (length t) 9999 (omega (arith, d .before .decoded-len .ensures))
+over d = not-true _ (sym (d .before .is-over .ensures) ∙ d .if1 .taken)
 
 within : (d : tie.Else1) → leb (length (decode (d .before .before .before .before .args .«data» .now))) 9999 ≡ true
-within d = let t = decode (d .before .before .before .before .args .«data» .now) in le-leb (length t) 9999 (omega (arith, d .before .decoded-len .ensures))
+within d = not-false _ (sym (d .before .is-over .ensures) ∙ d .if1 .left)
 
-add-decoded-len : tie.Need-add-decoded-len
-add-decoded-len c = search needs
-
-decoded-len-requires : tie.Need-decoded-len-requires
-decoded-len-requires c κs = search needs
+is-over-requires : tie.Need-is-over-requires
+is-over-requires c κs = search needs
 
 returns : tie.Need-returns
 unfolding qrReading
@@ -36,32 +37,45 @@ enum-told c = search needs
 
 returns-2 : tie.Need-returns-2
 unfolding qrReading
-returns-2 c =
-    let f = c .before .before in
-    simp (within f, c .enum-told .given .1)
+returns-2 c = simp (within (c .before .before), c .enum-told .given .1)
 
-qr-options-requires : tie.Need-qr-options-requires
-qr-options-requires c κs = search needs
+options-of-requires : tie.Need-options-of-requires
+options-of-requires c κs = search needs
+
+clamped-or-requires : tie.Need-clamped-or-requires
+clamped-or-requires c κs = search needs
 
 qr-level-requires : tie.Need-qr-level-requires
 qr-level-requires c κs = search needs
 
 returns-3 : tie.Need-returns-3
-unfolding qrReading
+unfolding qrReading qrOf lastClamped
 returns-3 c =
-    let f = c .before .before .before .before .before in
-    simp (within f, c .before .before .before .at .given .1, c .before .qr-options .ensures, c .qr-level .ensures)
+    let m = c .before .clamped-or in
+    let o = c .before .before .options-of in
+    let at = c .before .before .before .before in
+    let f = at .before .before in
+    let s = f .before .before .before .before .args .s .now in
+    rw (back32 (m .result) (m .ok))
+    (simp (
+      within f,
+      at .at .given .1,
+      m .ensures,
+      last-number s (o .ensures) (letter "s") (λ (k : Options). k .s) refl (λ k b n a. refl),
+      c .qr-level .ensures,
+      last-level s (o .ensures),
+    ))
 
 pub qr-spec : {M : Type 1} → statement M
 qr-spec =
     tie.close
     (tie.spec
-    add-decoded-len
-    decoded-len-requires
+    is-over-requires
     returns
     enum-known-at
     enum-told
     returns-2
-    qr-options-requires
+    options-of-requires
+    clamped-or-requires
     qr-level-requires
     returns-3)
