@@ -1,5 +1,5 @@
--- The type of a bar code by the length of its text, by its tag, and as one of 01's list.
--- Assumes nothing.
+-- The type of a bar code: by the length of its text (`symbology-one`, `symbology-two`, `symbology-three`,
+-- `symbology-other`), by its tag (`listed-tag`), and as one of 01's list (`listed-is`). Assumes nothing.
 use mathlib.Core.Path.{_≡_, refl}
 use mathlib.Core.Bool.{Bool, true, false, cond, _&&_, _||_}
 use mathlib.Core.List.{List, [], _∷_}

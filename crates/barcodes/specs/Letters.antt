@@ -1,5 +1,5 @@
--- Inner: how the reader tells a type, by the number of its letters. No claim rests on these: `symbologyOf` is proved
--- to be them (`BarcodeLaws`).
+-- Inner: how the reader tells a type, by the number of its letters. No claim rests on these: they are
+-- proved to tell what `symbologyOf` tells (`BarcodeLaws`).
 use Prim.Native.Nat.{ℕ}
 use mathlib.Core.Bool.{true, false, cond, _&&_, _||_}
 use lib.Dec.{eqb}

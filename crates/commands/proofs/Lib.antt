@@ -1,2 +1,2 @@
 pub mod LineLaws
-pub mod LaterLaws
+pub mod LineLaterLaws

@@ -1,5 +1,5 @@
--- Where a line's command stands in it, and its data.
--- Assumes nothing.
+-- Where a line's command stands in it (`lead-le`), and when it has no data (`quoted-none`). What it says further on is
+-- in LineLaterLaws. Assumes nothing.
 use mathlib.Core.Path.{_≡_, ap, _∙_}
 use mathlib.Core.List.{List}
 use Prim.Native.Nat.{ℕ, suc, _+_, _-_, _<_, _≤_}
@@ -8,7 +8,7 @@ use lib.ListN.{length, length-take, length-drop}
 use Rattle.text.specs.Blank.{trimStart, trim}
 use Rattle.text.specs.Fields.{indexOf, after, quoted}
 use Rattle.text.proofs.FieldsLaws.{before-last-le}
-use Rattle.text.proofs.TrimLaws.{trim-start-is, trim-end-is}
+use Rattle.text.proofs.BlankTrimLaws.{trim-start-is, trim-end-is}
 use Rattle.commands.specs.Line.{leadOf}
 
 -- the blanks before a line, and what is left of it

@@ -1,5 +1,5 @@
--- Corners as `read_corners` answers them, and drawn along one axis after the other.
--- Assumes nothing.
+-- Corners as `read_corners` answers them are those of the fields (`corners-are`), and what they give is what the two
+-- axes give (`drawn-is`). Assumes nothing.
 use mathlib.Core.Path.{_≡_, refl}
 use mathlib.Core.Bool.{Bool, true, false, cond, not, _&&_, _||_}
 use mathlib.Core.List.{List}

@@ -1,5 +1,5 @@
--- Inner: two corners as the reader draws them, one axis at a time. No claim rests on these: `drawnAt` is proved to be
--- them (`DrawLaws`).
+-- Inner: two corners as the reader draws them, one axis at a time. No claim rests on these: they are proved to draw
+-- what `drawnAt` draws (`DrawLaws`).
 use Prim.Native.Nat.{ℕ}
 use mathlib.Core.Bool.{Bool, not, _&&_, _||_}
 use mathlib.Core.List.{List}

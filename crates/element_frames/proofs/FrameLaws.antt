@@ -1,5 +1,5 @@
--- Laws of frames: their length, and that they depend on their data alone.
--- Assumes nothing.
+-- The sizes of frames (`fields-size`, `frame-size`, `frame-le`), frames as they are put (`frame-told`), and that a
+-- frame depends on its data alone (`frame-local`). Laws of `part` are in FramePartLaws. Assumes nothing.
 use mathlib.Core.Path.{_≡_, refl, sym, ap, _∙_}
 use mathlib.Core.List.{List, [], _++_}
 use Prim.Native.Nat.{ℕ, _+_, _*_, _≤_}
@@ -20,7 +20,7 @@ use Rattle.elements.proofs.PlainLaws.{onData, plain-on-span}
 use Rattle.element_frames.specs.Frame.{be32, part, head, extentBytes, barBytes, rowBytes, fieldBytes, dataBytes, plainFrame, frameOf, lens, dataLen}
 use Rattle.element_frames.specs.Put.{PutHex}
 use Rattle.element_frames.proofs.PutLaws.{whole, retold}
-use Rattle.element_frames.proofs.PartLaws.{part-le, part-in, decode-part-le, part-local}
+use Rattle.element_frames.proofs.FramePartLaws.{part-le, part-in, decode-part-le, part-local}
 
 -- ---- fields
 -- how many bytes they are

@@ -1,5 +1,5 @@
--- Laws of digits, lines and big-endian numbers: what is put together, and lengths.
--- Assumes nothing.
+-- Digits and lines put together (`hexes-append`), and lengths: of digits, of a line, of a big-endian number
+-- (`length-hexes`, `length-line`, `length-be32`). Assumes nothing.
 use mathlib.Core.Path.{_≡_, refl, ap}
 use mathlib.Core.List.{List, [], _∷_, _++_}
 use Prim.Native.Nat.{ℕ, _+_, _*_, _/_, _%_}

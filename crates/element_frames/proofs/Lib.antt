@@ -1,5 +1,5 @@
 pub mod HexLaws
 pub mod PutLaws
-pub mod PartLaws
+pub mod FramePartLaws
 pub mod FrameLaws
 pub mod Cases

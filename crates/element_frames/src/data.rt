@@ -66,7 +66,7 @@ fn with_decoded(fixed: usize, input: &[u8], d: DataSpan) -> usize
     fixed + decoded_len(part(input, d), 4294967295 - fixed)
 }
 
-// The same of data as it stands.
+// The length of data as it stands and fixed bytes more, 4294967295 at most.
 fn with_payload(fixed: usize, input: &[u8], d: DataSpan) -> usize
     requires { ⌜ fixed ≤ 4294967295 ⌝ }
     ensures { λ r. ⌜ r ≡ min 4294967295 (fixed + length (part (now (input .entry)) d)) ⌝ }

@@ -1,5 +1,5 @@
--- Laws of the plain form: where an element's data is moved, its plain form is the same but for the data.
--- Assumes nothing.
+-- Where an element's data is moved, its plain form is the same but for the data (`plain-on-span`), and its spans are
+-- moved as far (`spans-shifted`). Assumes nothing.
 use mathlib.Core.Path.{_≡_, refl, ap, _∙_}
 use mathlib.Core.List.{map}
 use Prim.Native.Nat.{ℕ}

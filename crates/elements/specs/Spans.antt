@@ -81,7 +81,7 @@ spansIn (Decoded d) = d ∷ []
 abbrev pub spans : LabelElement → List DataSpan
 spans e = spansIn (plainOf e .«data»)
 
--- its data lies in the first n bytes
+-- data at these spans lies in the first n bytes
 abbrev pub AllIn : ℕ → List DataSpan → Type 0
 AllIn n [] = Unit
 AllIn n (d ∷ ds) = (d .start + d .len ≤ n) × AllIn n ds

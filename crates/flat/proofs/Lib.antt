@@ -1,3 +1,3 @@
 -- an answer and its frame
-pub mod FrameLaws
+pub mod FramesLaws
 pub mod WrittenLaws

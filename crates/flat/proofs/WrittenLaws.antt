@@ -1,4 +1,4 @@
--- A flat answer says what the library answered: no refusal has the number 0. Assumes nothing.
+-- A flat answer says what the library answered (`flat-refusal`): no refusal has the number 0. Assumes nothing.
 use mathlib.Core.Path.{_≡_, refl}
 use Prim.Native.Nat.{ℕ}
 use Rattle.elements.specs.declared.refusal.Refusal.{Refusal}

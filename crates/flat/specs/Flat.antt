@@ -120,6 +120,6 @@ answered e next = record { kind = e .kind; number = 0; place = 0; count = 0; nex
 abbrev pub placed : ℕ → LabelPosition → DataSpan → Element
 placed kind p d = saying kind p d [] [] []
 
--- the same with rotation and line
+-- kind, position and data with rotation and line
 abbrev pub barred : ℕ → LabelPosition → FieldOrientation → Bool → DataSpan → Element
 barred kind p o l d = saying kind p d ((rotation, frame.rotation o) ∷ (line, frame.flag l) ∷ []) [] []

@@ -1,31 +1,64 @@
--- The normalised text from a place on, as the loops over blocks and lines want it. Assumes nothing.
-use mathlib.Core.Path.{_≡_, sym, ap, _∙_}
-use mathlib.Core.List.{List, [], _++_}
+-- The normalised text from a place on, as the loops over blocks and lines want it (`normalised-end`, `block-turn`,
+-- `line-turn`), and its length (`block-counts`, `line-counts`). Assumes nothing.
+use mathlib.Core.Path.{_≡_, sym, ap, _∙_, refl}
+use mathlib.Core.List.{List, [], _++_, _∷_, append-nil}
 use Prim.Native.Nat.{ℕ, _+_, _-_, _<_, _≤_}
 use native.Mathlib.Numerals.{add-one}
 use native.Mathlib.Omega.{arith}
-use lib.Dec.{ltb}
+use lib.Dec.{ltb, eqb}
 use lib.ListN.{length, length-append, length-drop, take, drop, drop-of-length-le}
-use lib.Seq.{length-take-le, drop-drop}
+use lib.Seq.{length-take-le, drop-drop, drop-cons}
 use borrow.Author.Tests.{ltb-true, ltb-false}
-use Rattle.text.specs.Blank.{front, trimAscii}
+use Rattle.text.specs.Blank.{front, trimAscii, dropWhile}
 use Rattle.text.proofs.BoolLaws.{test}
 use Rattle.text.proofs.DropSteps.{rest}
 use Rattle.text.proofs.ScanLaws.{size-with, size-without}
-use Rattle.whole.specs.Language.{First}
-use Rattle.grammar.specs.Units.{EplUnit, notLf}
-use Rattle.grammar.specs.Found.{textLine}
-use Rattle.grammar.specs.Normal.{chunk, written, normalised}
-use Rattle.grammar.proofs.ChunkLaws.{normalised-is}
-use Rattle.grammar.proofs.LineTurnLaws.{front-index}
+use Rattle.whole.specs.Language.{First, unit}
+use Rattle.grammar.specs.Units.{EplUnit, notLf, line, last, bytes}
+use Rattle.grammar.specs.Found.{textLine, lineBy}
+use Rattle.grammar.specs.Normal.{chunk, written, normalised, kept}
+use Rattle.grammar.proofs.NormalChunkLaws.{normalised-is}
+use Rattle.grammar.proofs.TurnLineLaws.{front-index}
 use Rattle.grammar.proofs.NormalLaws.{normalised-nil}
-use Rattle.grammar.proofs.TrimmedLaws.{length-trimmed-le}
+use Rattle.grammar.proofs.UnitsTrimmedLaws.{length-trimmed-le}
 use Rattle.lines.specs.Lines.{ended, lineSize}
 use Rattle.format.specs.Normalise.{Blocks}
-use Rattle.lines.proofs.EndedLaws.{ended-none, ended-length}
-use Rattle.format.proofs.FirstLaws.{text-line, text-last}
-use Rattle.lines.proofs.PieceLaws.{front-le}
-use Rattle.lines.proofs.AlongLaws.{index-length}
+use Rattle.lines.proofs.LinesLaws.{ended-none, ended-length, index-length}
+use Rattle.lines.proofs.LinesPieceLaws.{front-le}
+use Rattle.text.specs.Fields.{indexOf}
+use Rattle.text.proofs.FieldsLaws.{index-le}
+use Rattle.whole.specs.Normal.{each}
+use Rattle.grammar.proofs.FoundLineLaws.{line-by}
+
+-- ---- a part with the LF behind it
+kept-ended : (t : List ℕ) → each bytes (kept t) ≡ ended t
+kept-ended [] = refl
+kept-ended (b ∷ t) = append-nil _
+
+-- where the first line ends
+drop-index : (s : List ℕ) → dropWhile notLf s ≡ drop (indexOf 10 s) s
+drop-index [] = refl
+drop-index (b ∷ s) = test (eqb b 10) (λ e. simp e) (λ e. simp (e, drop-index s))
+
+module _ (s : List ℕ) (n : ℕ) (e : n ≡ indexOf 10 s) where
+  text-by : textLine s ≡ lineBy (take n s) (drop n s)
+  text-by = rw e (λ i. lineBy (front-index s i) (drop-index s i))
+
+  index-in : n ≤ length s
+  index-in = rw e (index-le 10 s)
+
+  -- what is written of it, and what follows: behind its LF, or nothing
+  text-line : n < length s → (go : List ℕ → List ℕ) → written (textLine s) go ≡ ended (trimAscii (take n s)) ++ go (drop (n + 1) s)
+  text-line h go =
+      let k : textLine s ≡ unit (line (take n s)) (drop (n + 1) s) = text-by ∙ rw (add-one, drop-cons s n 0) in
+      ap (λ (f : First EplUnit). written f go) k ∙ ap (λ (x : List ℕ). x ++ go (drop (n + 1) s)) (kept-ended (trimAscii (take n s)))
+
+  text-last : 0 < length s → length s ≤ n → (go : List ℕ → List ℕ) → written (textLine s) go ≡ ended (trimAscii (take n s)) ++ go (drop n s)
+  text-last p h go =
+      let d = drop-of-length-le s {i = n} h in
+      let k : textLine s ≡ unit (last (take n s)) (drop n s) =
+      text-by ∙ ap (lineBy (take n s)) d ∙ line-by (take n s) (omega (arith, length-take-le n s index-in)) ∙ ap (unit (last (take n s))) (sym d) in
+      ap (λ (f : First EplUnit). written f go) k ∙ ap (λ (x : List ℕ). x ++ go (drop n s)) (kept-ended (trimAscii (take n s)))
 
 -- nothing is left at the end
 pub normalised-end : (s : List ℕ) (at : ℕ) → length s ≤ at → normalised (drop at s) ≡ []
@@ -85,7 +118,7 @@ module _ (s : List ℕ) (at n : ℕ) (in-s : at < length s) (b : Blocks (here s 
     line-is : take end (here s at) ≡ front notLf (here s at)
     line-is = ap (λ (j : ℕ). take j (here s at)) (index-length (here s at)) ∙ sym (front-index (here s at))
 
-    -- so many bytes are left of it, and with an LF where there are any
+    -- m bytes are left of the line, and an LF behind them where there are any
     module _ (m : ℕ) (left : m ≡ length part) where
       pub left-le : m ≤ k
       left-le = let t = length-trimmed-le (front notLf (here s at)) in cases (λ h e. omega (arith, left, e, t)) (λ h e. omega (arith, left, e, t))

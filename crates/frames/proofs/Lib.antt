@@ -3,6 +3,6 @@ pub mod ListingLaws
 -- what the programs print
 pub mod PrintingLaws
 -- how long a listing is
-pub mod Room
+pub mod ListingRoomLaws
 -- a program, from standard input to standard output
-pub mod ProgramLaws
+pub mod PrintingProgramLaws

@@ -1,4 +1,5 @@
--- What the programs print, by what a call that filled their buffer gave back. Assumes nothing.
+-- What the programs print, by what a call that filled their buffer gave back (`prints-refusal`, `prints-nothing`,
+-- `prints-long`, `prints-due`). What a program prints of standard input is in PrintingProgramLaws. Assumes nothing.
 use mathlib.Core.Path.{_≡_, refl, subst, _∙_}
 use mathlib.Core.List.{List, []}
 use Prim.Native.Nat.{ℕ, _<_, _≤_}

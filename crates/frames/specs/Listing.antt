@@ -47,7 +47,7 @@ dueOf s = listingDue (outcomeOf s)
 abbrev pub frontFrames : List ℕ → WalkState → List (List ℕ)
 frontFrames s w = lead epl (List ℕ) frameOf s (traceOf s w)
 
--- the label of n of them
+-- a label of n elements, with the frames that the walk from w begins with
 abbrev pub labelText : List ℕ → ℕ → WalkState → List ℕ
 labelText s n w = labelLines (record { count = n; says = tt; frames = frontFrames s w })
 

@@ -38,8 +38,8 @@ abbrev pub printedOf : List ℕ → ℕ → List ℕ
 printedOf s m = printed s (dueOf s) m
 
 -- ---- a program, from standard input to standard output
--- a program has read standard input s into its buffer l, until l was full or s at its end: the n bytes read are s as far as l holds it
--- (`took`, ProgramLaws: such a buffer has it, whatever s is)
+-- a program has read standard input s into its buffer l, until l was full or s at its end: the n bytes read are s as
+-- far as l holds it (`took`, PrintingProgramLaws: such a buffer has it, whatever s is)
 abbrev pub Took : List ℕ → ℕ → List ℕ → Type 0
 Took l n s = take n l ≡ take (length l) s
 

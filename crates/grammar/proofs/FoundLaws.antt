@@ -1,5 +1,5 @@
--- `first` finds the unit that stands first, and nothing else: EPL fills `Reads`.
--- Assumes nothing.
+-- `first` finds the unit that stands first, and nothing else: EPL fills `Reads` (`reads`). Its lines are in
+-- FoundLineLaws, its blocks in FoundBlockLaws. Assumes nothing.
 use mathlib.Core.Path.{_≡_, refl, sym, ap, _∙_}
 use mathlib.Core.Bool.{true, false}
 use mathlib.Core.List.{List, [], _∷_, _++_, append-assoc, append-nil}
@@ -19,10 +19,10 @@ use Rattle.grammar.specs.Units.{EplUnit, block, line, last, gw, bytes, S
 use Rattle.grammar.specs.WellFormed.{wellFormed}
 use Rattle.grammar.specs.Found.{textLine, said, judged, found, first}
 use Rattle.grammar.specs.Epl.{epl}
-use Rattle.grammar.proofs.LineFaultLaws.{faultless, well-faultless}
-use Rattle.grammar.proofs.OpensLaws.{opens-not, not-opens}
-use Rattle.grammar.proofs.LineLaws.{Cut, TextLine, opens-line, line-finds, last-finds, line-sound, text-line-none}
-use Rattle.grammar.proofs.BlockLaws.{block-finds, Spanned, span-sound, span-none, none-opens}
+use Rattle.grammar.proofs.LineFaultsLaws.{faultless, well-faultless}
+use Rattle.grammar.proofs.UnitsOpensLaws.{opens-not, not-opens}
+use Rattle.grammar.proofs.FoundLineLaws.{Cut, TextLine, opens-line, line-finds, last-finds, line-sound, text-line-none}
+use Rattle.grammar.proofs.FoundBlockLaws.{block-finds, Spanned, span-sound, span-none, none-opens}
 
 -- ---- a command line
 pub judged-sound : (o : First EplUnit) (u : EplUnit) (rest : List ℕ) → judged o ≡ unit u rest → (o ≡ unit u rest) × (wellFormed (trim (said u)) ≡ true)

@@ -1,5 +1,5 @@
--- Laws of fronts: a string is its front and what follows it, and where a front ends.
--- Assumes nothing.
+-- A string is its front and what follows it (`front-drop`, `front-all`), and where a front ends (`drop-stops`,
+-- `drop-passes`). Assumes nothing.
 use mathlib.Core.Path.{_≡_, refl, sym, ap, _∙_}
 use mathlib.Core.Bool.{Bool, false}
 use mathlib.Core.List.{List, [], _∷_, _++_, append-nil}

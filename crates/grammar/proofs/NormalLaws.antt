@@ -1,13 +1,13 @@
--- Normalised text, unit by unit: a unit that stands first is written in its normal form, which is settled, has its
--- blocks and grows little; a block is its bytes.
--- Assumes nothing.
+-- Normalised text, unit by unit (`normalised-unit`): a normal form is settled, has its unit's blocks and grows little
+-- (`normal-settled`, `normal-blocks`, `normal-grows`, `length-normalised-le`). Chunks are in NormalChunkLaws. Assumes
+-- nothing.
 use mathlib.Core.Path.{_≡_, refl, sym, ap, subst, _∙_}
 use mathlib.Core.List.{List, [], _∷_, _++_, append-nil}
 use Prim.Native.Nat.{ℕ, zero, suc, _+_, _/_, _<_, _≤_}
 use native.Mathlib.Omega.{arith}
 use lib.ListN.{length, length-append}
 use Rattle.text.specs.Blank.{trimAscii}
-use Rattle.text.proofs.TrimLaws.{trim-ascii-trim-ascii}
+use Rattle.text.proofs.BlankTrimLaws.{trim-ascii-trim-ascii}
 use Rattle.graphics.specs.declared.gw_span.Graphic.{Graphic}
 use Rattle.graphics.specs.declared.gw_span.Graphic.the-variants as graphic
 use Rattle.graphics.specs.Block.{opensGw, gwSpan}
@@ -18,10 +18,10 @@ use Rattle.text.specs.Ascii.{spelt}
 use Rattle.grammar.specs.Units.{Header, EplUnit, block, line, last, bytes, Stands}
 use Rattle.grammar.specs.Found.{textLine, found, first}
 use Rattle.grammar.specs.Normal.{kept, normal, blocks, chunkBy, chunk, written, normalised}
-use Rattle.grammar.proofs.LineLaws.{TextLine, line-sound}
+use Rattle.grammar.proofs.FoundLineLaws.{TextLine, line-sound}
 use Rattle.grammar.proofs.FoundLaws.{judged-sound, reads}
-use Rattle.grammar.proofs.ChunkLaws.{chunk-sound, normalised-is}
-use Rattle.grammar.proofs.TrimmedLaws.{length-trimmed-le}
+use Rattle.grammar.proofs.NormalChunkLaws.{chunk-sound, normalised-is}
+use Rattle.grammar.proofs.UnitsTrimmedLaws.{length-trimmed-le}
 
 -- ---- what is written
 -- a unit that stands first is taken first

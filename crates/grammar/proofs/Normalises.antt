@@ -1,11 +1,11 @@
--- EPL fills `Normalises`: a unit and its normal form say the same, wherever frames look only at an element's own data.
--- Assumes nothing.
+-- EPL fills `Normalises` (`normalises`): a unit and its normal form say the same, wherever frames look only at an
+-- element's own data. Assumes nothing.
 use mathlib.Core.Path.{_≡_, refl, sym, ap, _∙_}
 use mathlib.Core.List.{List, [], _∷_, _++_, append-assoc, append-nil}
 use Prim.Native.Nat.{ℕ}
 use lib.ListN.{length}
 use Rattle.text.specs.Blank.{trim, trimAscii}
-use Rattle.text.proofs.TrimLaws.{trim-trim-ascii}
+use Rattle.text.proofs.BlankTrimLaws.{trim-trim-ascii}
 use Rattle.elements.specs.declared.LabelElement.{LabelElement}
 use Rattle.elements.specs.declared.LabelPosition.{LabelPosition}
 use Rattle.elements.specs.Spans.{In, shifted}
@@ -22,11 +22,11 @@ use Rattle.grammar.specs.Units.{EplUnit, block, line, last, bytes, all-n
 use Rattle.grammar.specs.WellFormed.{wellFormed}
 use Rattle.grammar.specs.Epl.{actOf, epl}
 use Rattle.grammar.specs.Normal.{kept, normal, blocks, normalised}
-use Rattle.grammar.proofs.LineFaultLaws.{well-faultless}
-use Rattle.grammar.proofs.OpensLaws.{opens-not}
-use Rattle.grammar.proofs.SpanLaws.{line-in}
-use Rattle.grammar.proofs.TrimmedLaws.{command-trimmed}
-use Rattle.grammar.proofs.LaterLaws.{line-later, within}
+use Rattle.grammar.proofs.LineFaultsLaws.{well-faultless}
+use Rattle.grammar.proofs.UnitsOpensLaws.{opens-not}
+use Rattle.grammar.proofs.EplLaws.{line-in}
+use Rattle.grammar.proofs.UnitsTrimmedLaws.{command-trimmed}
+use Rattle.commands.proofs.LineLaterLaws.{line-later, within}
 use Rattle.grammar.proofs.NormalLaws.{normalised-unit, normalised-nil, normal-settled, normal-blocks, normal-grows}
 
 -- ---- a normal form stands before anything
@@ -43,7 +43,7 @@ normal-solid (block bs h p) rest st = and-then (λ rest′. st) (and-then (λ re
 normal-solid (line t) rest st = kept-solid (trimAscii t) (command-trimmed t st)
 normal-solid (last t) rest st = kept-solid (trimAscii t) (command-trimmed t (st .0))
 
--- ---- and does the same
+-- ---- a unit and its normal form say the same
 empty-says : (t : List ℕ) (r : LabelPosition) → trim t ≡ [] → readLine t r ≡ reading.Passed
 unfolding readLine commandOf isReference isPrint
 empty-says t r e = rw e

@@ -1,5 +1,4 @@
--- `fieldOr` is the value of a number field.
--- Assumes nothing.
+-- `fieldOr` is the value of a number field (`number-fields`). Assumes nothing.
 use mathlib.Core.Path.{_≡_, refl, sym, ap, subst, _∙_}
 use mathlib.Core.Bool.{Bool, true, false, cond, true≢false}
 use mathlib.Core.List.{List, [], _∷_}
@@ -20,7 +19,7 @@ use Rattle.grammar.specs.Spelled.{Digits}
 use Rattle.grammar.specs.NumberField.{decimal, Writes, unsigned, plus, minus, NumberField, given, default}
 use Rattle.grammar.specs.Ranges.{Signed32}
 use Rattle.grammar.proofs.SpelledLaws.{digit-true, true-digits}
-use Rattle.grammar.proofs.RangeLaws.{fit, unfit}
+use Rattle.grammar.proofs.RangesLaws.{fit, unfit}
 
 -- ---- digits
 value-is : (n : ℕ) (s : List ℕ) → Digits s → valueFrom n s ≡ some (decimal n s)

@@ -1,5 +1,5 @@
--- `commandOf` tells the command that a line spells: `Spells`, by its letters.
--- Assumes nothing.
+-- `commandOf` tells the command that a line spells, `Spells`, by its letters (`command-spells`, `spells-command`; as
+-- one law `spelled`). Assumes nothing.
 use mathlib.Core.Path.{_≡_, refl, sym, ap, subst, _∙_}
 use mathlib.Core.Bool.{Bool, true, false, false≢true}
 use mathlib.Core.List.{List, [], _∷_}

@@ -1,17 +1,15 @@
--- Laws of graphic blocks: one turn of the loop that passes a header field, the parts of a header, and where a block's
--- data lies.
--- Assumes nothing.
+-- The header field at a place (`read-other`, `read-end`), the four fields of a header (`four`, `not-four`), the sizes
+-- of a graphic (`total-fits`), and where its data lies (`span-fits`). Assumes nothing.
 use mathlib.Core.Path.{_≡_, refl, sym, ap, _∙_}
 use mathlib.Core.Bool.{Bool, true, false, not, _&&_, _||_, and-true, true≢false}
-use mathlib.Core.List.{List, [], _∷_, _++_, append-nil, append-assoc}
+use mathlib.Core.List.{List, [], _∷_}
 use Prim.Native.Nat.{ℕ, _+_, _-_, _*_, _<_, _≤_}
 use native.Mathlib.Nat.{mul-le-mul}
-use native.Mathlib.Numerals.{add-one}
 use native.Mathlib.Omega.{arith}
 use lib.Dec.{T, eqb, ltb}
 use lib.IntN.{ℤ, pos, negsuc, natAbs}
 use lib.ListN.{length, getD, take, drop, length-take, length-drop, drop-of-length-le}
-use lib.Seq.{drop-cons, drop-drop, take-suc, take-length}
+use lib.Seq.{drop-cons, drop-drop, take-length}
 use lib.Signed.{mag, ltZ, nonNeg, natAbs-le}
 use mir.Syntax.{w64}
 use mir.Val.{Fits}
@@ -32,39 +30,6 @@ use Rattle.graphics.specs.declared.gw_span.GwNumbers.{GwNumbers}
 use Rattle.graphics.specs.declared.gw_span.GwSpan.{GwSpan}
 use Rattle.graphics.specs.declared.gw_span.HeaderField.{HeaderField}
 use Rattle.graphics.specs.Block.{isLineBlank, opensGw, inField, closes, afterHeaderField, headerNumber, fourClosed, payloadOf, gwNumbers, total, measured, headerOf, gwSpan, FieldLen, HeaderRead}
-
--- the loop that passes the first header field
-
--- nothing but bytes of the first header field stands in t before i
-pub record Within (t : List ℕ) (i : ℕ) : Type 0 where
-  pub passed : front inField t ≡ take i t ++ front inField (drop i t)
-  pub left : dropWhile inField t ≡ dropWhile inField (drop i t)
-  pub fits : i ≤ length t
-
-module _ (t : List ℕ) (i : ℕ) (w : Within t i) where
-  pub field-step : i < length t → inField (getD t i 0) ≡ true → Within t (i + 1)
-  field-step h e =
-      record {
-        passed = w .passed ∙ rw (add-one, take-suc t i 0, drop-cons t i 0) (simp (e, append-assoc));
-        left = w .left ∙ rw (add-one, drop-cons t i 0) (simp e);
-        fits = omega arith;
-      }
-
-  pub field-stop : i < length t → inField (getD t i 0) ≡ false → FieldLen t i
-  field-stop h e =
-      record {
-        is = sym (w .passed ∙ rw (drop-cons t i 0) (simp (e, append-nil)));
-        left = sym (w .left ∙ rw (drop-cons t i 0) (simp e));
-        fits = w .fits;
-      }
-
-  pub field-end : length t ≤ i → FieldLen t i
-  field-end h =
-      record {
-        is = sym (w .passed ∙ rw (drop-of-length-le t) (simp append-nil));
-        left = sym (w .left ∙ rw (drop-of-length-le t));
-        fits = w .fits;
-      }
 
 -- the header field at a place
 
@@ -214,7 +179,7 @@ module _ {t : List ℕ} where
       unfolding fourClosed
       fourth-open hw h c = simp (hx .is, hx .behind, hy .is, hy .behind, hw .is, hw .behind, not-closed h c)
 
--- it refuses the graphic; behind four that are closed the sizes decide
+-- a field that is not closed refuses the graphic; behind four that are closed the sizes decide
 module _ (s t : List ℕ) (e : t ≡ headerOf s) (o : opensGw s ≡ true) where
   pub not-four : fourClosed t ≡ false → graphic.Refused refusal.GraphicFields ≡ gwSpan s
   unfolding gwSpan

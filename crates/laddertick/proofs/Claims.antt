@@ -1,4 +1,4 @@
--- The claims hold of any functions that meet the contracts. Assumes nothing.
+-- The claims hold of any functions that meet the contracts (`theorem`). Assumes nothing.
 use mathlib.Core.Path.{_≡_, refl, sym, ap, subst, _∙_}
 use mathlib.Core.Bool.{false}
 use mathlib.Core.List.{List, [], map}
@@ -6,7 +6,7 @@ use mathlib.Core.Logic.{_↔_}
 use Prim.Native.Nat.{ℕ, _≤_}
 use native.Mathlib.Omega.{arith}
 use lib.ListN.{length, take}
-use Rattle.text.proofs.WhiteLaws.{code-points-trim}
+use Rattle.text.proofs.BlankWhiteLaws.{code-points-trim}
 use Rattle.texts.proofs.FontLaws.{width-exact}
 use Rattle.elements.specs.declared.LabelElement.{LabelElement}
 use Rattle.elements.specs.declared.refusal.Refusal.{Refusal}
@@ -37,30 +37,30 @@ use Rattle.grammar.specs.Divided.{Earliest}
 use Rattle.grammar.specs.Normal.{normal, blocks, normalised}
 use Rattle.grammar.proofs.FoundLaws.{reads}
 use Rattle.grammar.proofs.SpelledLaws.{spelled}
-use Rattle.grammar.proofs.RangeLaws.{in-range, out-of-range}
-use Rattle.grammar.proofs.ShapeLaws.{shape}
+use Rattle.grammar.proofs.RangesLaws.{in-range, out-of-range}
+use Rattle.grammar.proofs.ShapesLaws.{shape}
 use Rattle.grammar.proofs.NumberFieldLaws.{number-fields}
-use Rattle.grammar.proofs.InRangeLaws.{in-range-labels, labels-in-range}
-use Rattle.grammar.proofs.LineFaultLaws.{ill-has-fault, fault-is-ill}
-use Rattle.grammar.proofs.FaultLaws.{faults}
-use Rattle.grammar.proofs.EarliestLaws.{fails-earliest, one-earliest, divides-no-earliest}
+use Rattle.grammar.proofs.DividedLabelsLaws.{in-range-labels, labels-in-range}
+use Rattle.grammar.proofs.LineFaultsLaws.{ill-has-fault, fault-is-ill}
+use Rattle.grammar.proofs.FaultsLaws.{faults}
+use Rattle.grammar.proofs.DividedEarliestLaws.{fails-earliest, one-earliest, divides-no-earliest}
 use Rattle.grammar.proofs.NormalLaws.{length-normalised-le, block-bytes, line-blocks}
 use Rattle.grammar.proofs.Normalises.{normalises}
 use Rattle.grammar.proofs.BecomesLaws.{becomes}
-use Rattle.grammar.proofs.ReadingLaws.{ill-formed, well-formed-range}
-use Rattle.units.proofs.UnitLaws.{inside}
+use Rattle.grammar.proofs.WellFormedLaws.{ill-formed, well-formed-range}
+use Rattle.grammar.proofs.EplLaws.{inside}
 use Rattle.walk.specs.declared.answer.Answer.{Answer}
 use Rattle.walk.specs.Steps.{answerOf}
-use Rattle.flat.proofs.FrameLaws.{flat-frame, flat-kind, flat-next}
+use Rattle.flat.proofs.FramesLaws.{flat-frame, flat-kind, flat-next}
 use Rattle.frames.specs.Listing.{FramedLabel, listingOf, outcomeOf, listingDue, dueOf}
 use Rattle.format.specs.Normalise as format
-use Rattle.frames.proofs.Room.{length-listing-le, never-short}
+use Rattle.frames.proofs.ListingRoomLaws.{length-listing-le, never-short}
 use Rattle.laddertick.specs.Contracts.{Library, Gives}
 use Rattle.laddertick.specs.Walked.{Walked, answered}
 use Rattle.laddertick.specs.Claims.{Divides, Normalising, Demand3, Claims, Theorem}
 use Rattle.laddertick.proofs.WalkedLaws.{walked, one-walked, answered-is}
-use Rattle.laddertick.proofs.CallLaws.{step-hands-back, list-keeps, normalise-keeps, long-step, long-list, long-normalise, outside, ended-again, data-inside, denies}
-use Rattle.laddertick.proofs.CallLaws as calls
+use Rattle.laddertick.proofs.ContractsLaws.{step-hands-back, list-keeps, normalise-keeps, long-step, long-list, long-normalise, outside, ended-again, data-inside, denies}
+use Rattle.laddertick.proofs.ContractsLaws as calls
 use Rattle.laddertick.proofs.Proved.{proved}
 use Rattle.laddertick.proofs.Starred.{starred}
 use Rattle.laddertick.proofs.Distinct.{distinct}

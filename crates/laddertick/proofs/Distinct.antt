@@ -1,5 +1,4 @@
--- Every row of the table of distinct fields holds, by computation.
--- Assumes nothing.
+-- Every row of the table of distinct fields holds, by computation (`distinct`). Assumes nothing.
 use mathlib.Core.Path.{refl}
 use mathlib.Core.List.{flatten}
 use lib.Ieee.{toBits, ofBits, ofInt, mul, div, lt}

@@ -2,11 +2,11 @@
 pub mod Starred
 pub mod Distinct
 -- data lies inside
-pub mod InsideLaws
+pub mod StepInsideLaws
 -- the walk by a function that meets the contract of `step`
 pub mod WalkedLaws
 -- demand 1, and what a call gives by what is due to it
-pub mod CallLaws
+pub mod ContractsLaws
 -- the code
 pub mod Proved
 -- the claims

@@ -1,4 +1,4 @@
--- The code meets its contracts, by its own theorems. Assumes nothing.
+-- The code meets its contracts, by its own theorems (`proved`). Assumes nothing.
 use Rattle.elements.proofs.walk_state.start.Met as start
 use Rattle.walk.proofs.step.step.Met as step
 use Rattle.frames.proofs.listing.list.Met as list

@@ -1,5 +1,5 @@
--- Every row of the table of starred cases holds, by computation; the one width that is divided, by `width-exact`.
--- Assumes nothing.
+-- Every row of the table of starred cases holds (`starred`), by computation; the one width that is divided, by
+-- `width-exact`. Assumes nothing.
 use mathlib.Core.Path.{refl}
 use lib.Dec.{lit<}
 use Rattle.text.specs.Fields.{before, after, beforeLast, fields, withoutTrailingCommas}

@@ -22,7 +22,7 @@ Stepped s w r = answerOf r ≡ step epl s (stateOf w)
 abbrev pub Listed : List ℕ → List ℕ → List ℕ → Filled → Type 0
 Listed s l n r = Fills n l (listing.dueOf s) (givenOf r)
 
--- `normalise`, in the same way
+-- `normalise` answers r to the input s and the buffer l, which becomes n
 abbrev pub Normalised : List ℕ → List ℕ → List ℕ → Filled → Type 0
 Normalised s l n r = Fills n l (normal.dueOf s) (givenOf r)
 
@@ -51,7 +51,7 @@ Denies n p l c = (givenOf (c .answer) ≡ refused n p) × (c .buffer ≡ l)
 abbrev pub Writes : List ℕ → List ℕ → Filling → Type 0
 Writes t l c = (givenOf (c .answer) ≡ bytes (length t)) × (c .buffer ≡ t ++ drop (length t) l)
 
--- it is written "where the buffer has room, and 15 gives its length where not"
+-- the text t is written "where the buffer has room, and 15 gives its length where not"
 pub record Gives (t l : List ℕ) (c : Filling) : Type 0 where
   pub room : length t ≤ length l → Writes t l c
   pub short : length l < length t → Denies 15 (length t) l c

@@ -1,5 +1,4 @@
 -- a part and its LF
-pub mod EndedLaws
+pub mod LinesLaws
 -- a line piece by piece
-pub mod PieceLaws
-pub mod AlongLaws
+pub mod LinesPieceLaws

@@ -1,5 +1,5 @@
--- What the normaliser's program prints, whatever was read, is the normalised text: its buffer is never too short.
--- Assumes nothing.
+-- What the normaliser's program prints, whatever was read, is the normalised text (`never-15`): its buffer is never too
+-- short (`normalised-room`). Assumes nothing.
 use mathlib.Core.Path.{_≡_, ap}
 use mathlib.Core.List.{List}
 use Prim.Native.Nat.{ℕ, _+_, _/_, _≤_}
@@ -11,7 +11,7 @@ use Rattle.grammar.specs.Normal.{normalised}
 use Rattle.grammar.proofs.NormalLaws.{length-normalised-le}
 use Rattle.format.specs.Normalise.{dueOf}
 use Rattle.frames.specs.Printing.{shownFor}
-use Rattle.frames.proofs.ProgramLaws.{Room}
+use Rattle.frames.proofs.PrintingProgramLaws.{Room}
 
 due-text : (s : List ℕ) → length s ≤ 65536 → dueOf s ≡ text (normalised s)
 due-text s h = within-short longest s (text (normalised s)) (omega arith)

@@ -18,7 +18,7 @@ use Rattle.text.specs.Class.{isDigit, allDigits}
 use Rattle.text.specs.Fields.{indexOf, before}
 use Rattle.numbers.specs.Number.{valueFrom, numberSpelled, numberOr, fieldOr}
 use Rattle.text.proofs.BoolLaws.{and-both, test, within-low, within-high}
-use Rattle.text.proofs.TrimLaws.{trim-start-other, trim-end-other}
+use Rattle.text.proofs.BlankTrimLaws.{trim-start-other, trim-end-other}
 
 -- what has a value is digits
 value-digits : (s : List ℕ) (acc v : ℕ) → valueFrom acc s ≡ some v → allDigits s ≡ true

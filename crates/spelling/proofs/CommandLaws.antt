@@ -1,4 +1,4 @@
--- The command of a line by its first byte.
+-- The command of a line by its first byte (`spelled`, `reads-reference`, `reads-line`, `reads-print`, `reads-other`).
 -- Assumes nothing.
 use mathlib.Core.Path.{_≡_, refl, sym, ap, _∙_}
 use mathlib.Core.Bool.{false, cond}

@@ -1,5 +1,5 @@
--- Laws of the blanks' bytes: which ranges they lie in, and that a blank at either end is found there.
--- Assumes nothing.
+-- Which ranges the bytes of blanks lie in, and that a blank at either end is found there (`blank-front`, `blank-back`).
+-- Other laws of blanks: BlankStripLaws, BlankTrimLaws, BlankWhiteLaws; the code's steps: BlankSteps. Assumes nothing.
 use mathlib.Core.Path.{_≡_, sym}
 use mathlib.Core.Bool.{Bool, true, false, _&&_, _||_, true≢false}
 use mathlib.Core.List.{List, [], _∷_, _++_, reverse}
@@ -11,7 +11,7 @@ use borrow.Author.Tests.{eqb-true, ne-eqb, le-leb, lt-leb}
 use Rattle.text.specs.Utf8.{within, parts, whole}
 use Rattle.text.specs.Blank.{isBlank1, isBlank2, isBlank3, isBlank, sizeOf, back}
 use Rattle.text.proofs.BoolLaws.{or-cases, and-both, test, within-low, within-high}
-use Rattle.text.proofs.WholeLaws.{Whole, one, two, three, whole-complete, parts-whole}
+use Rattle.text.proofs.Utf8WholeLaws.{Whole, one, two, three, whole-complete, parts-whole}
 
 -- the ranges that the bytes of a blank lie in
 

@@ -1,5 +1,5 @@
--- One turn of a loop that drops the bytes of a class q at the front, place i, or at the end, place n.
--- Assumes nothing.
+-- One turn of a loop that drops the bytes of a class q at the front, place i (`front-skip`, `front-stop`, `front-end`),
+-- or at the end, place n (`back-skip`, `back-stop`, `back-end`). The laws are in DropLaws. Assumes nothing.
 use mathlib.Core.Path.{_≡_, refl, sym, ap, _∙_}
 use mathlib.Core.Bool.{Bool, true, false}
 use mathlib.Core.List.{List, [], _∷_, reverse, reverse-append, reverse-reverse}

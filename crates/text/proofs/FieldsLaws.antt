@@ -1,6 +1,6 @@
--- Laws of the parts that a byte cuts a text into: lengths, where each part stands, fields one after the other, and
--- equal texts;
--- with the steps of the loops that find them. Assumes nothing.
+-- The parts that a byte cuts a text into: lengths and places (`index-le`, `after-le`, `before-last-le`), fields one
+-- after the other (`fields-cons`, `field-is`), equal texts (`same-true`), and the steps of the loops that find parts.
+-- Assumes nothing.
 use mathlib.Core.Path.{_≡_, refl, sym, ap, _∙_}
 use mathlib.Core.Bool.{Bool, true, false, cond, true≢false}
 use mathlib.Core.List.{List, [], _∷_, reverse, reverse-reverse}
@@ -90,7 +90,7 @@ field-is s (suc k) =
     (λ e. simp e (field-is (after 44 s) k))
     (λ e. simp (e, after-none 44 s (ltb-false (indexOf 44 s) (length s) e)) (sym (field-nil k))))
 
--- counting them
+-- counting fields
 
 ahead-length : (x : ℕ) (fs : List (List ℕ)) → 0 < length fs → length (ahead x fs) ≡ length fs
 ahead-length x [] h = absurd (not-suc-le-zero h)

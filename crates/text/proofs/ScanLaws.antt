@@ -1,6 +1,5 @@
--- Laws of a search by places: stretches without b are joined, a minimum over sixty-four places is the first b there
--- (`Least`), and the first b by places is the one that `indexOf` gives.
--- Assumes nothing.
+-- A search by places: stretches without b are joined (`none-join`), a minimum over sixty-four places is the first b
+-- there (`least-first`), and the first b by places is the one that `indexOf` gives (`first-found`). Assumes nothing.
 use mathlib.Core.Path.{_≡_, sym, ap, subst, _∙_}
 use mathlib.Core.List.{List, [], _∷_}
 use mathlib.Core.Logic.{_⊎_, inl, inr, ⊎-elim}

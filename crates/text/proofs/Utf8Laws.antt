@@ -1,5 +1,5 @@
--- Laws of parts and of decoding: parts put together again are the bytes; cuts before a byte that is no 80..bf; ASCII;
--- the length.
+-- Parts and decoding: parts put together are the bytes (`flatten-parts`), cuts before a byte that is no 80..bf
+-- (`parts-append`, `decode-split`), ASCII (`decode-ascii`), lengths (`length-decode-le`). See Utf8WholeLaws, Utf8Steps.
 -- Assumes nothing.
 use mathlib.Core.Path.{_≡_, refl, sym, ap, _∙_}
 use mathlib.Core.Bool.{Bool, true, false, cond}

@@ -1,5 +1,5 @@
--- The code's steps over parts, in the terms that the code has.
--- Assumes nothing.
+-- The code's steps over parts, in the terms that the code has (`run-step`, `decode-left`, `count-again`,
+-- `write-again`). The laws are in Utf8Laws. Assumes nothing.
 use mathlib.Core.Path.{_≡_, refl, sym, ap, _∙_}
 use mathlib.Core.Bool.{true, false}
 use mathlib.Core.List.{List, [], _∷_, _++_, map, flatten}
@@ -41,7 +41,7 @@ module _ (s : List ℕ) (lo hi n i : ℕ) (p : 0 < i) (l : i ≤ length s) (e : 
       (λ z. let k : n - i ≡ 0 = omega (arith, leb-true n i z) in ends (ap (λ (m : ℕ). run lo hi m (drop i s)) k))
       (λ z. ends (ap (run lo hi (n - i)) (drop-of-length-le s {i = i} (omega (arith, leb-false n i z))) ∙ run-nil lo hi (n - i)))
 
-  -- or another byte stands next
+  -- a byte that does not go on with the sequence stands next
   pub part-other : i < length s → within lo hi (getD s i 0) ≡ false → PartLen s i
   part-other q h = ends (ap (run lo hi (n - i)) (drop-cons s i 0 q) ∙ run-other lo hi (n - i) (getD s i 0) (drop (suc i) s) h)
 

@@ -1,7 +1,5 @@
--- Laws of bytes side by side in one number: those that are b are marked in all of them at once (`word-marks`), and the
--- zeros below the lowest mark tell the first b (`mark-first`). Every operation works on each byte apart, so each law is
--- an induction on how many there are.
--- Assumes nothing.
+-- Bytes side by side in one number: those that are b are marked in all at once (`word-marks`), and the zeros below the
+-- lowest mark tell the first b (`mark-first`). Each law is an induction on how many bytes there are. Assumes nothing.
 use mathlib.Core.Path.{_≡_, refl, sym, ap, _∙_}
 use mathlib.Core.Bool.{Bool, true, false, cond, _&&_, true≢false}
 use mathlib.Core.List.{List}

@@ -1,4 +1,4 @@
--- A text's width, height × across / height at binary64: exact where the product is below 2 ^ 53.
+-- A text's width, height × across / height at binary64, is exact where the product is below 2 ^ 53 (`width-exact`).
 -- Assumes nothing.
 use mathlib.Core.Path.{_≡_, sym, _∙_, subst}
 use mathlib.Core.Bool.{false}

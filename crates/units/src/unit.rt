@@ -24,7 +24,7 @@ use parameters::reading::LineReading;
 pub enum Reading {
     End,
     Fault(Refusal),
-    // It is passed, with this reference from here on.
+    // The unit is passed, with this reference from here on.
     Passed(usize, LabelPosition),
     Cleared(usize),
     Element(LabelElement, usize),

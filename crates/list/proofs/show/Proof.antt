@@ -3,7 +3,7 @@
 use native.Mathlib.Omega.{arith}
 use borrow.Author.Needs.{needs}
 use Rattle.frames.specs.Listing.{dueOf}
-use Rattle.frames.proofs.ProgramLaws.{shows, listing-room}
+use Rattle.frames.proofs.PrintingProgramLaws.{shows, listing-room}
 use Rattle.list.proofs.show.Statement.{statement}
 use Rattle.list.proofs.show.Tie as tie
 

@@ -2,14 +2,28 @@
 -- less i.
 -- Assumes nothing.
 use mathlib.Core.Path.{_≡_, sym, _∙_}
-use Prim.Native.Nat.{_-_, _≤_}
-use lib.ListN.{length, drop}
+use mathlib.Core.Bool.{true, false}
+use mathlib.Core.List.{List}
+use Prim.Native.Nat.{_-_, _≤_, ℕ, _+_, _<_}
+use native.Mathlib.Numerals.{add-one}
+use lib.ListN.{length, drop, getD, drop-of-length-le}
+use lib.Seq.{drop-cons}
 use borrow.Author.Needs.{needs}
 use borrow.Author.Tests.{not-true, not-false}
-use Rattle.text.specs.Class.{allDigits}
-use Rattle.text.proofs.ClassLaws.{digits-next, digits-other, digits-end}
+use Rattle.text.specs.Class.{allDigits, isDigit}
 use Rattle.bytes.proofs.class.all_digits.Statement.{statement}
 use Rattle.bytes.proofs.class.all_digits.Tie as tie
+
+-- a turn of the loop, at place i
+module _ (s : List ℕ) (i : ℕ) where
+  digits-next : i < length s → isDigit (getD s i 0) ≡ true → allDigits (drop i s) ≡ allDigits (drop (i + 1) s)
+  digits-next h e = rw (add-one, drop-cons s i 0) (simp e)
+
+  digits-other : i < length s → isDigit (getD s i 0) ≡ false → allDigits (drop i s) ≡ false
+  digits-other h e = rw (drop-cons s i 0) (simp e)
+
+  digits-end : length s ≤ i → allDigits (drop i s) ≡ true
+  digits-end h = rw (drop-of-length-le s)
 
 abbrev Inv-loop : tie.InvT-loop
 Inv-loop s i₀ i = (i ≤ length s) × (allDigits s ≡ allDigits (drop i s))

@@ -4,11 +4,11 @@ use mathlib.Core.Path.{_≡_, ap, _∙_}
 use native.Mathlib.Omega.{arith}
 use lib.ListN.{length}
 use Rattle.text.specs.Blank.{isBlank, trim, trimEnd}
-use Rattle.text.proofs.StripLaws.{strip-le}
+use Rattle.text.proofs.BlankStripLaws.{strip-le}
 use Rattle.spelling.specs.Command.{commandOf}
 use Rattle.commands.specs.Line.{leadOf, readLine}
 use Rattle.commands.proofs.LineLaws.{lead-le}
-use Rattle.commands.proofs.LaterLaws.{command-later}
+use Rattle.commands.proofs.LineLaterLaws.{command-later}
 use borrow.Author.Needs.{needs}
 use Rattle.commands.proofs.line.read_line.Statement.{statement}
 use Rattle.commands.proofs.line.read_line.Tie as tie

@@ -21,7 +21,7 @@ cut d =
     let f = d .before .before .before in
     d .before-last .ensures ∙ ap (beforeLast 34) (after-here 34 (f .before .before .args .t .now) (f .find .result) (f .find .ensures .is))
 
--- and the parameters
+-- the parameters that were cut out
 params : (d : tie.After-without-trailing-commas) → d .without-trailing-commas .result .now ≡ paramsOf (d .before .before .before .before .before .before .before .before .before .args .t .now)
 unfolding paramsOf before
 params d =

@@ -1,19 +1,26 @@
 -- `decoding::data::decode` meets its contract: 14, 15, or the bytes are written. Assumes nothing.
 use mathlib.Core.Path.{_≡_, ap, _∙_}
 use mathlib.Core.List.{List}
-use Prim.Native.Nat.{ℕ}
+use Prim.Native.Nat.{ℕ, _≤_, min}
 use native.Mathlib.Omega.{arith}
-use lib.ListN.{length}
+use lib.ListN.{length, drop, length-take, length-drop}
 use lib.Seq.{sets}
 use Rattle.text.specs.Utf8.{decode}
 use Rattle.element_frames.specs.Frame.{part}
 use Rattle.elements.specs.Given.{text, longest}
 use Rattle.elements.proofs.GivenLaws.{within-long, within-short, fills-denied, fills-short, fills-written}
 use Rattle.decoding.specs.Decoding.{dueOf}
-use Rattle.decoding.proofs.DecodingLaws.{measured}
+use Rattle.text.proofs.Utf8Laws.{length-decode-le}
+use Rattle.elements.specs.declared.DataSpan.{DataSpan}
 use borrow.Author.Needs.{needs}
 use Rattle.decoding.proofs.data.decode.Statement.{statement}
 use Rattle.decoding.proofs.data.decode.Tie as tie
+
+-- p is the data, and n its length as it was measured
+measured : (s : List ℕ) (d : DataSpan) (p : List ℕ) (n : ℕ) → length s ≤ longest → p ≡ part s d → n ≡ min 50331648 (length (decode p)) → n ≡ length (decode (part s d))
+measured s d p n h at m =
+    m ∙ ap (λ (x : List ℕ). min 50331648 (length (decode x))) at
+    ∙ omega (arith, length-decode-le (part s d), length-take (d .len) (drop (d .start) s), length-drop (d .start) s)
 
 -- what is due where the input is within its limit, and how long it is
 module _ (n : tie.After-decoded-len) where

@@ -1,7 +1,7 @@
 -- `element_frames::data::part` meets its contract.
 -- Assumes nothing.
 use mathlib.Core.Path.{_∙_}
-use Rattle.element_frames.proofs.PartLaws.{part-is}
+use Rattle.element_frames.proofs.FramePartLaws.{part-is}
 use borrow.Author.Needs.{needs}
 use Rattle.element_frames.proofs.data.part.Statement.{statement}
 use Rattle.element_frames.proofs.data.part.Tie as tie

@@ -1,14 +1,25 @@
 -- `element_frames::hex::put_bytes` meets its contract. Invariant: the bytes before i are written, up to o. Measure:
 -- src's length less i.
 -- Assumes nothing.
-use Prim.Native.Nat.{_-_, _≤_}
+use mathlib.Core.Path.{sym}
+use mathlib.Core.List.{List, [], _∷_}
+use Prim.Native.Nat.{_-_, _≤_, ℕ, _+_, _<_}
 use native.Mathlib.Omega.{arith}
-use lib.ListN.{length, take}
+use native.Mathlib.Numerals.{add-one}
+use lib.ListN.{length, take, getD}
+use lib.Seq.{take-suc, take-all}
 use Rattle.element_frames.specs.Put.{PutHex}
-use Rattle.element_frames.proofs.PutLaws.{nothing, copy-step, copy-end}
+use Rattle.element_frames.proofs.PutLaws.{then, counted, retold, nothing}
 use borrow.Author.Needs.{needs}
 use Rattle.element_frames.proofs.hex.put_bytes.Statement.{statement}
 use Rattle.element_frames.proofs.hex.put_bytes.Tie as tie
+
+module _ (src : List ℕ) {out out₀ : List ℕ} {at i o : ℕ} (p : PutHex out out₀ at (take i src) i o) where
+  copy-step : {n : List ℕ} {r : ℕ} → i < length src → PutHex n out o (getD src i 0 ∷ []) 1 r → PutHex n out₀ at (take (i + 1) src) (i + 1) r
+  copy-step h q = retold (sym (rw add-one (take-suc src i 0 h))) (then p q)
+
+  copy-end : i ≤ length src → length src ≤ i → PutHex out out₀ at src (length src) o
+  copy-end h g = counted (omega arith) (retold (take-all i src g) p)
 
 abbrev Inv-loop : tie.InvT-loop
 Inv-loop src out₀ at i₀ o₀ out i o = (i ≤ length src) × PutHex out out₀ at (take i src) i o

@@ -1,15 +1,42 @@
 -- `element_frames::hex::put_decoded` meets its contract. Invariant: what t is decoded to is left to write, from o on.
 -- Measure: t's length.
 -- Assumes nothing.
-use Prim.Native.Nat.{_≤_, _-_}
+use mathlib.Core.Path.{_≡_, refl, sym, ap, _∙_}
+use mathlib.Core.List.{List, [], _++_, append-assoc, append-nil}
+use Prim.Native.Nat.{_≤_, _-_, ℕ, _+_, _*_}
 use native.Mathlib.Omega.{arith}
-use lib.ListN.{length, length-take, take, drop}
+use lib.ListN.{length, length-take, take, drop, length-append}
 use Rattle.text.specs.Utf8.{shown, decode}
 use Rattle.text.proofs.Utf8Steps.{left-less, length-left, decode-left, decode-none}
-use Rattle.element_frames.proofs.PutLaws.{Left, left-all, left-room, left-step, left-none}
+use Rattle.element_frames.proofs.PutLaws.{then, counted, same, nothing}
+use Rattle.element_frames.specs.Put.{PutHex}
 use borrow.Author.Needs.{needs}
 use Rattle.element_frames.proofs.hex.put_decoded.Statement.{statement}
 use Rattle.element_frames.proofs.hex.put_decoded.Tie as tie
+
+-- of the bytes `all`, those before `rest` are written
+record Left (n l : List ℕ) (at r : ℕ) (all rest : List ℕ) : Type 0 where
+  done : List ℕ
+  split : all ≡ done ++ rest
+  put : PutHex n l at done (length done) r
+
+left-all : (l : List ℕ) (at : ℕ) (all : List ℕ) → Left l l at at all all
+left-all l at all = record { done = []; split = refl; put = nothing l at }
+
+module _ {n l : List ℕ} {at r : ℕ} {all rest : List ℕ} (w : Left n l at r all rest) where
+  left-room : at + 2 * length all ≤ length l → r + 2 * length rest ≤ length n
+  left-room h = omega (arith, ap length (w .split) ∙ length-append (w .done) rest, w .put .next, w .put .wrote .long)
+
+  left-step : {m : List ℕ} {q : ℕ} (xs more : List ℕ) → rest ≡ xs ++ more → PutHex m n r xs (length xs) q → Left m l at q all more
+  left-step xs more e p =
+      record {
+        done = w .done ++ xs;
+        split = w .split ∙ ap (λ (z : List ℕ). w .done ++ z) e ∙ sym (append-assoc (w .done) xs more);
+        put = counted (sym (length-append (w .done) xs)) (then (w .put) p);
+      }
+
+  left-none : rest ≡ [] → PutHex n l at all (length all) r
+  left-none e = same (sym (w .split ∙ ap (λ (z : List ℕ). w .done ++ z) e ∙ append-nil (w .done))) (w .put)
 
 abbrev Inv-loop : tie.InvT-loop
 Inv-loop src out₀ at o₀ t₀ out o t = (length t ≤ length src) × Left out out₀ at o (decode src) (decode t)

@@ -6,7 +6,7 @@ use mathlib.Core.List.{List, _++_}
 use Prim.Native.Nat.{ℕ, _+_, _-_, _<_, _≤_}
 use native.Mathlib.Omega.{arith}
 use lib.ListN.{length, drop}
-use Rattle.text.proofs.Toward.{Toward, begin, room, put, finish}
+use Rattle.text.proofs.WroteTowardLaws.{Toward, begin, room, put, finish}
 use Rattle.grammar.specs.Normal.{normalised}
 use Rattle.lines.specs.Lines.{ended}
 use Rattle.format.proofs.NormaliseLaws.{normalised-end, block-turn, block-in, line-in, line-some, line-turn, line-counts}

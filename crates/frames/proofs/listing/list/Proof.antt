@@ -1,16 +1,36 @@
 -- `frames::listing::list` meets its contract: the first pass says what is due, and only what fits is written. Assumes
 -- nothing.
-use mathlib.Core.Path.{_≡_, sym, ap, _∙_}
+use mathlib.Core.Path.{_≡_, sym, ap, _∙_, refl}
+use mathlib.Core.List.{List, []}
+use Prim.Native.Nat.{ℕ}
 use native.Mathlib.Omega.{arith}
+use lib.ListN.{length}
 use Rattle.elements.specs.declared.filled.Filled.{Filled}
 use Rattle.elements.specs.declared.filled.Filled.the-variants.{Bytes, Refused}
-use Rattle.elements.specs.Given.{needed, givenOf}
-use Rattle.elements.proofs.GivenLaws.{needed-denied, fills-denied, fills-short, fills-written}
-use Rattle.frames.specs.Listing.{dueOf}
-use Rattle.frames.proofs.ListingLaws.{due-text, due-length}
+use Rattle.elements.specs.Given.{needed, givenOf, bytes, text}
+use Rattle.elements.proofs.GivenLaws.{needed-denied, fills-denied, fills-short, fills-written, bytes≢refused, bytes-inj}
+use Rattle.frames.specs.Listing.{dueOf, FramedLabel, listingOf, listingDue, textFrom}
+use Rattle.element_frames.specs.Frame.{frameOf}
+use Rattle.whole.specs.Reach.{Final, accepted, refusal}
+use Rattle.whole.specs.Trace.{ending, final, labelsIn}
+use Rattle.grammar.specs.Epl.{epl}
+use Rattle.elements.specs.Walk.{fresh}
+use Rattle.walk.specs.Steps.{traceOf}
 use borrow.Author.Needs.{needs}
 use Rattle.frames.proofs.listing.list.Statement.{statement}
 use Rattle.frames.proofs.listing.list.Tie as tie
+
+-- the labels that are written, where the walk lists them
+due-by : (f : Final) (ls : List FramedLabel) (n : ℕ) → bytes n ≡ needed (listingDue (ending f ls)) → listingDue (ending f ls) ≡ text (listingOf ls)
+due-by accepted ls n e = refl
+due-by (refusal m q) ls n e = absurd (bytes≢refused e)
+
+module _ (s : List ℕ) (n : ℕ) (e : bytes n ≡ needed (dueOf s)) where
+  due-text : dueOf s ≡ text (textFrom s fresh)
+  due-text = due-by (final (traceOf s fresh)) (labelsIn epl (List ℕ) frameOf s [] (traceOf s fresh)) n e
+
+  due-length : n ≡ length (textFrom s fresh)
+  due-length = bytes-inj (e ∙ ap needed due-text)
 
 -- what was measured, by the answer that was matched
 told : (d : tie.After-measure) (q : Filled) → d .measure .result ≡ q → givenOf q ≡ needed (dueOf (d .before .before .before .args .input .now))

@@ -1,19 +1,69 @@
 -- `frames::listing::measure` meets its contract. Invariant: what is counted so far, and the rest of the walk. Measure:
 -- what is left of it.
 -- Assumes nothing.
-use mathlib.Core.Path.{_≡_, sym, ap, _∙_}
-use Prim.Native.Nat.{ℕ, _+_, _-_, _*_, _≤_}
+use mathlib.Core.Path.{_≡_, sym, ap, _∙_, refl}
+use mathlib.Core.List.{List, [], _∷_, _++_}
+use Prim.Native.Nat.{ℕ, _+_, _-_, _*_, _≤_, min}
 use native.Mathlib.Omega.{arith}
-use lib.ListN.{length}
+use native.Mathlib.Nat.{add-zero, zero-add, min-eq-right, min-le-left}
+use lib.ListN.{length, length-append}
 use Rattle.elements.specs.Walk.{fresh}
 use Rattle.walk.specs.Steps.{traceOf}
 use Rattle.walk.specs.declared.answer.Answer.{Answer}
 use Rattle.walk.specs.declared.answer.Answer.the-variants.{Element, Clear, Print, End, Refused}
 use Rattle.elements.specs.declared.walk_state.WalkState.{WalkState}
-use Rattle.frames.proofs.ListingLaws.{onStep, Moved, moved-by, frame-len-le, frame-len-is, sizeFrom, size-is, size-by}
+use Rattle.frames.proofs.ListingLaws.{onStep, Moved, moved-by, begins, length-lines, length-label}
+use Rattle.elements.specs.declared.LabelElement.{LabelElement}
+use Rattle.element_frames.specs.Frame.{frameOf}
+use Rattle.element_frames.proofs.FrameLaws.{frame-in}
+use Rattle.whole.specs.Reach.{Final, accepted, refusal}
+use Rattle.elements.specs.Given.{Given, bytes, refused, needed, longest}
+use Rattle.whole.specs.Trace.{Trace, stops, refuses, yields, clears, prints, ending, final, labelsIn}
+use Rattle.grammar.specs.Epl.{epl}
+use Rattle.frames.specs.Listing.{FramedLabel, linesOf, labelLines, listingOf, listingDue, dueOf}
 use borrow.Author.Needs.{needs}
 use Rattle.frames.proofs.listing.measure.Statement.{statement}
 use Rattle.frames.proofs.listing.measure.Tie as tie
+
+-- the length, as the first pass counts it: of the labels so far, and of what is pending
+abbrev sizeFrom : List ℕ → ℕ → ℕ → Trace LabelElement Unit → Given
+sizeFrom s total pend stops = bytes total
+sizeFrom s total pend (refuses n k) = refused n k
+sizeFrom s total pend (yields e t) = sizeFrom s total (pend + (2 * length (frameOf s e) + 1)) t
+sizeFrom s total pend (clears t) = sizeFrom s total 0 t
+sizeFrom s total pend (prints n q t) = sizeFrom s (total + (11 + pend)) 0 t
+
+abbrev longer : ℕ → Given → Given
+longer k (bytes n) = bytes (k + n)
+longer k (refused n p) = refused n p
+
+longer-zero : (z : Given) → longer 0 z ≡ z
+longer-zero (bytes n) = ap bytes (zero-add n)
+longer-zero (refused n p) = refl
+
+-- the frames of an input that the walk takes are counted exactly
+frame-len-le : (s : List ℕ) (e : LabelElement) (n : ℕ) → n ≡ min 4294967295 (length (frameOf s e)) → n ≤ 4294967295
+frame-len-le s e n q = rw q (min-le-left 4294967295 (length (frameOf s e)))
+
+frame-len-is : (s : List ℕ) (e : LabelElement) → length s ≤ longest → min 4294967295 (length (frameOf s e)) ≡ length (frameOf s e)
+frame-len-is s e h = min-eq-right (omega (arith, frame-in s e))
+
+size-cons : (f : Final) (k : ℕ) (l : FramedLabel) (ls : List FramedLabel) → longer k (needed (listingDue (ending f (l ∷ ls)))) ≡ longer (k + length (labelLines l)) (needed (listingDue (ending f ls)))
+size-cons accepted k l ls = ap bytes (omega (arith, length-append (labelLines l) (listingOf ls)))
+size-cons (refusal n p) k l ls = refl
+
+size-trace : (s : List ℕ) (k : ℕ) (p : List (List ℕ)) (t : Trace LabelElement Unit) → longer k (needed (listingDue (ending (final t) (labelsIn epl (List ℕ) frameOf s p t)))) ≡ sizeFrom s k (length (linesOf p)) t
+size-trace s k p stops = ap bytes (add-zero k)
+size-trace s k p (refuses n j) = refl
+size-trace s k p (yields e t) = size-trace s k (p ++ (frameOf s e ∷ [])) t ∙ ap (λ (m : ℕ). sizeFrom s k m t) (length-lines p (frameOf s e))
+size-trace s k p (clears t) = size-trace s k [] t
+size-trace s k p (prints n q t) =
+    size-cons (final t) k (record { count = n; says = q; frames = p }) (labelsIn epl (List ℕ) frameOf s [] t)
+    ∙ size-trace s (k + length (labelLines (record { count = n; says = q; frames = p }))) [] t
+    ∙ ap (λ (m : ℕ). sizeFrom s (k + m) 0 t) (length-label n q p)
+
+size-is : (s : List ℕ) → needed (dueOf s) ≡ sizeFrom s 0 0 (traceOf s fresh)
+size-is s = sym (longer-zero (needed (dueOf s))) ∙ size-trace s 0 [] (traceOf s fresh)
 
 -- an element takes a byte of the input at least, and at most 2 * 4294967295 + 1 bytes of the listing, with 11 of its
 -- label's
@@ -29,7 +79,7 @@ counted : (d : tie.After-step Inv-loop μ-loop) (q : Answer) → d .step .result
     ≡ sizeFrom (d .before .before .before .before .args .input .now) (d .before .loop .total) (d .before .loop .pend) (onStep (d .before .before .before .before .args .input .now) q)
 counted d q k =
     let l = d .before .loop in
-    l .inv .0 ∙ size-by (d .before .before .before .before .args .input .now) (l .here) (d .step .result) q (d .step .ensures) k (l .total) (l .pend)
+    l .inv .0 ∙ ap (sizeFrom (d .before .before .before .before .args .input .now) (l .total) (l .pend)) (begins (d .before .before .before .before .args .input .now) (l .here) (d .step .result) q (d .step .ensures) k)
 
 moved : (d : tie.After-step Inv-loop μ-loop) (q : Answer) → d .step .result ≡ q → Moved (d .before .before .before .before .args .input .now) (d .before .loop .here) q
 moved d q k = moved-by (d .before .before .before .before .args .input .now) (d .before .loop .here) (d .step .result) q (d .step .ensures) k

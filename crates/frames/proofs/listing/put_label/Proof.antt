@@ -1,12 +1,26 @@
 -- `frames::listing::put_label` meets its contract: frame 00, then the frames of the elements. Assumes nothing.
+use mathlib.Core.Path.{_∙_}
+use mathlib.Core.List.{List, _++_}
+use Prim.Native.Nat.{ℕ}
 use native.Mathlib.Omega.{arith}
+use lib.ListN.{length-append}
 use Rattle.element_frames.specs.Frame.{countFrame}
 use Rattle.element_frames.specs.Hex.{lineOf}
 use Rattle.frames.specs.Listing.{linesOf, frontFrames}
-use Rattle.frames.proofs.ListingLaws.{length-count, length-label, put-both}
+use Rattle.frames.proofs.ListingLaws.{length-count, length-label}
+use Rattle.text.specs.Wrote.{Put}
+use Rattle.text.proofs.WroteLaws.{wrote, sets-append}
 use borrow.Author.Needs.{needs}
 use Rattle.frames.proofs.listing.put_label.Statement.{statement}
 use Rattle.frames.proofs.listing.put_label.Tie as tie
+
+-- the stores of one text and then of another
+put-both : {m n l : List ℕ} {at j r : ℕ} (xs ys : List ℕ) → Put m l at xs j → Put n m j ys r → Put n l at (xs ++ ys) r
+put-both {m} {n} {l} {at} {j} {r} xs ys a b =
+    record {
+      wrote = wrote (b .wrote .is ∙ rw (a .wrote .is, a .next) (sets-append l at xs ys));
+      next = omega (arith, a .next, b .next, length-append xs ys);
+    }
 
 put-count-requires : tie.Need-put-count-requires
 put-count-requires c κs = let a = c .before .before .before .args in omega (arith, length-label (a .n) tt (frontFrames (a .input .now) (a .first)))

@@ -5,7 +5,7 @@ use mathlib.Core.List.{List}
 use Prim.Native.Nat.{ℕ, _+_, _-_, _*_}
 use native.Mathlib.Omega.{arith}
 use lib.ListN.{length}
-use Rattle.text.proofs.Toward.{Toward, begin, retold, room, put, finish}
+use Rattle.text.proofs.WroteTowardLaws.{Toward, begin, retold, room, put, finish}
 use Rattle.whole.specs.Trace.{labelsIn, after}
 use Rattle.grammar.specs.Epl.{epl}
 use Rattle.element_frames.specs.Frame.{frameOf}

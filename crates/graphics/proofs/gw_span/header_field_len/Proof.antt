@@ -1,13 +1,50 @@
 -- `graphics::gw_span::header_field_len` meets its contract. Invariant: `Within`, nothing but bytes of the field stands
 -- before i. Measure: t's length less i.
 -- Assumes nothing.
-use mathlib.Core.Path.{sym, refl, _∙_}
-use Prim.Native.Nat.{_-_}
-use lib.ListN.{length}
+use mathlib.Core.Path.{sym, refl, _∙_, _≡_}
+use mathlib.Core.Bool.{true, false}
+use mathlib.Core.List.{List, _++_, append-nil, append-assoc}
+use Prim.Native.Nat.{_-_, ℕ, _+_, _<_, _≤_}
+use native.Mathlib.Numerals.{add-one}
+use native.Mathlib.Omega.{arith}
+use lib.ListN.{length, getD, take, drop, drop-of-length-le}
+use lib.Seq.{drop-cons, take-suc}
+use Rattle.text.specs.Blank.{dropWhile, front}
+use Rattle.graphics.specs.Block.{inField, FieldLen}
 use borrow.Author.Needs.{needs}
-use Rattle.graphics.proofs.BlockLaws.{Within, field-step, field-stop, field-end}
 use Rattle.graphics.proofs.gw_span.header_field_len.Statement.{statement}
 use Rattle.graphics.proofs.gw_span.header_field_len.Tie as tie
+
+-- nothing but bytes of the first header field stands in t before i
+record Within (t : List ℕ) (i : ℕ) : Type 0 where
+  passed : front inField t ≡ take i t ++ front inField (drop i t)
+  left : dropWhile inField t ≡ dropWhile inField (drop i t)
+  fits : i ≤ length t
+
+module _ (t : List ℕ) (i : ℕ) (w : Within t i) where
+  field-step : i < length t → inField (getD t i 0) ≡ true → Within t (i + 1)
+  field-step h e =
+      record {
+        passed = w .passed ∙ rw (add-one, take-suc t i 0, drop-cons t i 0) (simp (e, append-assoc));
+        left = w .left ∙ rw (add-one, drop-cons t i 0) (simp e);
+        fits = omega arith;
+      }
+
+  field-stop : i < length t → inField (getD t i 0) ≡ false → FieldLen t i
+  field-stop h e =
+      record {
+        is = sym (w .passed ∙ rw (drop-cons t i 0) (simp (e, append-nil)));
+        left = sym (w .left ∙ rw (drop-cons t i 0) (simp e));
+        fits = w .fits;
+      }
+
+  field-end : length t ≤ i → FieldLen t i
+  field-end h =
+      record {
+        is = sym (w .passed ∙ rw (drop-of-length-le t) (simp append-nil));
+        left = sym (w .left ∙ rw (drop-of-length-le t));
+        fits = w .fits;
+      }
 
 abbrev Inv-loop : tie.InvT-loop
 Inv-loop t i₀ i = Within t i

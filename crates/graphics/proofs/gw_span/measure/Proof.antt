@@ -22,7 +22,7 @@ width-back d = back32 (d .before .before .args .n .«width_bytes») (d .struct-t
 lines-back : (d : tie.After-struct-told2) → toZ w32 (ofZ w32 (d .before .before .args .n .lines)) ≡ d .before .before .args .n .lines
 lines-back d = back32 (d .before .before .args .n .lines) (d .struct-told2 .given .1 .1 .0 .1)
 
--- neither is negative
+-- neither size is negative
 width-ok : (d : tie.Else1) → ltZ (d .before .before .before .args .n .«width_bytes») (pos 0) ≡ false
 width-ok d = simp (width-back (d .before)) at (d .if1 .left)
 

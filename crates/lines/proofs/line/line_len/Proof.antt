@@ -4,8 +4,8 @@ use Prim.Native.Nat.{ℕ}
 use lib.ListN.{length, take}
 use Rattle.text.specs.Blank.{dropEnd, isAsciiBlank, trimAscii}
 use Rattle.text.specs.Scan.{sizeBy}
-use Rattle.grammar.proofs.LineTurnLaws.{front-index}
-use Rattle.lines.proofs.AlongLaws.{index-length}
+use Rattle.grammar.proofs.TurnLineLaws.{front-index}
+use Rattle.lines.proofs.LinesLaws.{index-length}
 use borrow.Author.Needs.{needs}
 use Rattle.lines.proofs.line.line_len.Statement.{statement}
 use Rattle.lines.proofs.line.line_len.Tie as tie

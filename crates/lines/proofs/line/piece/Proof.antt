@@ -4,7 +4,7 @@ use Prim.Native.Nat.{ℕ}
 use lib.ListN.{take}
 use Rattle.text.specs.Blank.{front}
 use Rattle.grammar.specs.Units.{notLf}
-use Rattle.grammar.proofs.LineTurnLaws.{front-index}
+use Rattle.grammar.proofs.TurnLineLaws.{front-index}
 use borrow.Author.Needs.{needs}
 use Rattle.lines.proofs.line.piece.Statement.{statement}
 use Rattle.lines.proofs.line.piece.Tie as tie

@@ -1,6 +1,6 @@
 -- `lines::line::put_ended` meets its contract: nothing, or the part and then LF. Assumes nothing.
 use native.Mathlib.Omega.{arith}
-use Rattle.lines.proofs.EndedLaws.{put-none, put-some, ended-length}
+use Rattle.lines.proofs.LinesLaws.{put-none, put-some, ended-length}
 use borrow.Author.Needs.{needs}
 use Rattle.lines.proofs.line.put_ended.Statement.{statement}
 use Rattle.lines.proofs.line.put_ended.Tie as tie

@@ -11,7 +11,7 @@ use Rattle.text.specs.Scan.{sizeBy}
 use Rattle.text.proofs.ScanLaws.{first-found, size-with}
 use Rattle.grammar.specs.Units.{notLf}
 use Rattle.lines.specs.Lines.{ended}
-use Rattle.lines.proofs.AlongLaws.{index-length, line-is}
+use Rattle.lines.proofs.LinesLaws.{index-length, line-is}
 use borrow.Author.Needs.{needs}
 use Rattle.lines.proofs.line.put_line.Statement.{statement}
 use Rattle.lines.proofs.line.put_line.Tie as tie

@@ -1,23 +1,43 @@
 -- `lines::line::put_long` meets its contract: the blanks before the line, its pieces, and LF where something was
 -- written. Assumes nothing.
-use mathlib.Core.Path.{_≡_, sym, ap, _∙_}
+use mathlib.Core.Path.{_≡_, sym, ap, _∙_, refl}
 use mathlib.Core.List.{List, [], _∷_}
+use mathlib.Core.Bool.{true, false, or-false}
 use Prim.Native.Nat.{ℕ, _+_, _-_}
 use native.Mathlib.Omega.{arith}
 use lib.ListN.{length, length-append}
-use Rattle.text.specs.Blank.{front, dropEnd, isAsciiBlank, trimAscii}
+use lib.Dec.{eqb}
+use borrow.Author.Tests.{eqb-true}
+use Rattle.text.specs.Blank.{front, dropEnd, isAsciiBlank, trimAscii, dropWhile}
 use Rattle.text.specs.Scan.{sizeBy}
 use Rattle.text.specs.Wrote.{Put}
 use Rattle.grammar.specs.Units.{notLf}
 use Rattle.text.proofs.DropLaws.{drop-while-le}
 use Rattle.graphics.specs.Block.{isLineBlank}
 use Rattle.lines.specs.Lines.{lineSize}
-use Rattle.lines.proofs.AlongLaws.{started-is, started-size}
-use Rattle.lines.proofs.PieceLaws.{front-le}
-use Rattle.lines.proofs.EndedLaws.{ended-some, ended-le, put-empty, put-ended-at}
+use Rattle.lines.proofs.LinesPieceLaws.{front-le}
+use Rattle.lines.proofs.LinesLaws.{ended-some, ended-le, put-empty, put-ended-at}
+use Rattle.text.proofs.BoolLaws.{test}
 use borrow.Author.Needs.{needs}
 use Rattle.lines.proofs.line.put_long.Statement.{statement}
 use Rattle.lines.proofs.line.put_long.Tie as tie
+
+lf-no-blank : (b : ℕ) → eqb b 10 ≡ true → isLineBlank b ≡ false
+lf-no-blank b e = let k : b ≡ 10 = eqb-true b 10 e in rw k refl
+
+started-is : (s : List ℕ) → dropWhile isAsciiBlank (front notLf s) ≡ front notLf (dropWhile isLineBlank s)
+started-is [] = refl
+started-is (b ∷ s) =
+    test (eqb b 10)
+    (λ e. simp (e, lf-no-blank b e))
+    (λ e. test (isLineBlank b) (λ k. simp (e, or-false, k, started-is s)) (λ k. simp (e, or-false, k)))
+
+started-size : (s : List ℕ) → length (front notLf s) ≡ length s - length (dropWhile isLineBlank s) + length (front notLf (dropWhile isLineBlank s))
+started-size [] = refl
+started-size (b ∷ s) =
+    test (eqb b 10)
+    (λ e. simp (e, lf-no-blank b e) (omega arith))
+    (λ e. test (isLineBlank b) (λ k. simp (e, k) (omega (arith, started-size s, drop-while-le isLineBlank s))) (λ k. simp (e, k) (omega arith)))
 
 -- what stays of the line, as its pieces are told
 kept : (c : tie.After-trim-line-start) → trimAscii (front notLf (c .before .before .before .args .rest .now)) ≡ dropEnd isAsciiBlank (front notLf (c .trim-line-start .result .now))

@@ -1,19 +1,126 @@
 -- `lines::line::put_pieces` meets its contract. Invariant: the line is written up to done, and blanks go on to seen.
 -- Measure: the bytes left. Assumes nothing.
-use mathlib.Core.Path.{_≡_}
+use mathlib.Core.Path.{_≡_, refl, sym, ap, _∙_}
 use mathlib.Core.Logic.{_⊎_, ⊎-elim, inl, inr}
-use mathlib.Core.List.{List}
+use mathlib.Core.List.{List, _++_}
 use Prim.Native.Nat.{ℕ, _+_, _-_, _<_, _≤_}
 use native.Mathlib.Omega.{arith}
-use lib.ListN.{length, take, drop}
+use lib.ListN.{length, take, drop, length-take, length-drop}
+use lib.Seq.{drop-drop, take-all}
 use Rattle.text.specs.Blank.{front, dropEnd, isAsciiBlank}
-use Rattle.text.proofs.Toward.{room}
+use Rattle.text.proofs.WroteTowardLaws.{room, Toward, begin, put, finish}
 use Rattle.grammar.specs.Units.{notLf}
-use Rattle.lines.proofs.PieceLaws.{front-le}
-use Rattle.lines.proofs.AlongLaws.{Along, along-start, kept-in, forth, upto-le, seen-le, splits, along-next, along-end, ended-here}
+use Rattle.lines.proofs.LinesPieceLaws.{front-le, kept-le, piece-some, piece-rest, piece-none, front-take, front-behind, front-part}
+use Rattle.text.specs.Wrote.{Wrote, Put}
+use Rattle.text.proofs.DropSteps.{rest}
+use Rattle.lines.proofs.LinesLaws.{nothing}
 use borrow.Author.Needs.{needs}
 use Rattle.lines.proofs.line.put_pieces.Statement.{statement}
 use Rattle.lines.proofs.line.put_pieces.Tie as tie
+
+-- the line of t is written up to done, blanks go on from there to seen, and no LF stands before that
+record Along (t out₀ : List ℕ) (at : ℕ) (out : List ℕ) (done seen to : ℕ) : Type 0 where
+  ordered : done ≤ seen
+  inside : seen ≤ length (front notLf t)
+  blank : length (dropEnd isAsciiBlank (take (seen - done) (drop done (front notLf t)))) ≡ 0
+  toward : Toward out to (dropEnd isAsciiBlank (drop done (front notLf t))) out₀ at (dropEnd isAsciiBlank (front notLf t))
+
+along-start : (t out : List ℕ) (at : ℕ) → Along t out at out 0 0 at
+along-start t out at = record { ordered = omega arith; inside = omega arith; blank = refl; toward = begin out at (dropEnd isAsciiBlank (front notLf t)) }
+
+-- a turn: pc is the next piece, and q of its bytes are kept
+module _ {t out₀ : List ℕ} {at : ℕ} {out : List ℕ} {done seen to : ℕ} (s : Along t out₀ at out done seen to) where
+  abbrev line : List ℕ
+  line = front notLf t
+
+  abbrev left : List ℕ
+  left = drop done line
+
+  abbrev next : List ℕ
+  next = take 4096 (drop (seen - done) left)
+
+  next-is : (pc : List ℕ) → pc ≡ front notLf (take 4096 (take (length t - seen) (drop seen t))) → pc ≡ next
+  next-is pc e =
+      let k : done + (seen - done) ≡ seen = omega (arith, s .ordered) in
+      e ∙ ap (λ (l : List ℕ). front notLf (take 4096 l)) (rest t seen) ∙ front-take notLf (drop seen t) 4096
+      ∙ ap (take 4096) (front-behind notLf t seen (s .inside) ∙ ap (λ (j : ℕ). drop j line) (sym k) ∙ sym (drop-drop (seen - done) done line))
+
+  -- a piece that is not full ends the line
+  ended-here : (pc : List ℕ) → pc ≡ front notLf (take 4096 (take (length t - seen) (drop seen t))) → length pc < 4096 → seen + length pc ≡ length line
+  ended-here pc e h = omega (arith, h, ap length (next-is pc e), length-take 4096 (drop (seen - done) left), length-drop (seen - done) left, length-drop done line, s .ordered, s .inside)
+
+  module _ (pc d : List ℕ) (is : pc ≡ front notLf (take 4096 (take (length t - seen) (drop seen t)))) (kept : d ≡ dropEnd isAsciiBlank pc) where
+    n-is : length pc ≡ length next
+    n-is = ap length (next-is pc is)
+
+    q-is : length d ≡ length (dropEnd isAsciiBlank next)
+    q-is = ap length (kept ∙ ap (dropEnd isAsciiBlank) (next-is pc is))
+
+    kept-in : length d ≤ length pc
+    kept-in = omega (arith, n-is, q-is, kept-le isAsciiBlank left (seen - done) 4096)
+
+    seen-le : seen + length pc ≤ length line
+    seen-le = omega (arith, n-is, length-take 4096 (drop (seen - done) left), length-drop (seen - done) left, length-drop done line, s .ordered, s .inside)
+
+    -- up to there it is written
+    module _ (upto : ℕ) (u : ((seen < seen + length d) × (upto ≡ seen + length d)) ⊎ ((seen + length d ≤ seen) × (upto ≡ done))) where
+      forth : done ≤ upto
+      forth = ⊎-elim (λ w. omega (arith, w .1, s .ordered)) (λ w. omega (arith, w .1)) u
+
+      upto-le : upto ≤ seen + length pc
+      upto-le = ⊎-elim (λ w. omega (arith, w .1, kept-in)) (λ w. omega (arith, w .1, s .ordered)) u
+
+      part-is : take (upto - done) (drop done t) ≡ take (upto - done) left
+      part-is = front-part notLf t done (upto - done) (omega (arith, forth, upto-le, seen-le))
+
+      rest-is : drop (upto - done) left ≡ drop upto line
+      rest-is = let k : done + (upto - done) ≡ upto = omega (arith, forth) in drop-drop (upto - done) done line ∙ ap (λ (j : ℕ). drop j line) k
+
+      splits : dropEnd isAsciiBlank left ≡ take (upto - done) (drop done t) ++ dropEnd isAsciiBlank (drop upto line)
+      splits =
+          ⊎-elim
+          (λ w.
+          let k : seen - done + length (dropEnd isAsciiBlank next) ≡ upto - done = omega (arith, w .1, q-is, s .ordered) in
+          piece-some isAsciiBlank left (seen - done) 4096 (omega (arith, w .0, q-is))
+          ∙ ap (λ (j : ℕ). take j left ++ dropEnd isAsciiBlank (drop j left)) k
+          ∙ (λ i. sym part-is i ++ dropEnd isAsciiBlank (rest-is i)))
+          (λ w.
+          let k : 0 ≡ upto - done = omega (arith, w .1) in
+          ap (λ (j : ℕ). dropEnd isAsciiBlank (drop j line)) (sym (w .1)) ∙ ap (λ (j : ℕ). take j (drop done t) ++ dropEnd isAsciiBlank (drop upto line)) k)
+          u
+
+      blanks : length (dropEnd isAsciiBlank (take (seen + length pc - upto) (drop upto line))) ≡ 0
+      blanks =
+          ⊎-elim
+          (λ w.
+          let k : seen - done + length (dropEnd isAsciiBlank next) ≡ upto - done = omega (arith, w .1, q-is, s .ordered) in
+          let r : seen + length pc - upto ≡ length next - length (dropEnd isAsciiBlank next) = omega (arith, w .1, q-is, n-is) in
+          ap (λ (l : List ℕ). length (dropEnd isAsciiBlank (take (seen + length pc - upto) l))) (sym rest-is ∙ ap (λ (j : ℕ). drop j left) (sym k))
+          ∙ ap (λ (j : ℕ). length (dropEnd isAsciiBlank (take j (drop (seen - done + length (dropEnd isAsciiBlank next)) left)))) r
+          ∙ piece-rest isAsciiBlank left (seen - done) 4096)
+          (λ w.
+          let r : seen + length pc - upto ≡ seen - done + length next = omega (arith, w .1, n-is, s .ordered) in
+          ap (λ (j : ℕ). length (dropEnd isAsciiBlank (take (seen + length pc - upto) (drop j line)))) (w .1)
+          ∙ ap (λ (j : ℕ). length (dropEnd isAsciiBlank (take j left))) r
+          ∙ piece-none isAsciiBlank left (seen - done) 4096 (s .blank) (omega (arith, w .0, q-is)))
+          u
+
+      along-next : {out′ : List ℕ} → Wrote out′ out to (take (upto - done) (drop done t)) → Along t out₀ at out′ upto (seen + length pc) (to + (upto - done))
+      along-next w =
+          let k : to + (upto - done) ≡ to + length (take (upto - done) (drop done t)) =
+          omega (arith, ap length part-is, length-take (upto - done) left, length-drop done line, forth, upto-le, seen-le) in
+          record {
+            ordered = upto-le;
+            inside = seen-le;
+            blank = blanks;
+            toward = put (s .toward) (dropEnd isAsciiBlank (drop upto line)) splits (record { wrote = w; next = k });
+          }
+
+-- the line ends at seen: all is written
+along-end : {t out₀ : List ℕ} {at : ℕ} {out : List ℕ} {done seen to : ℕ} → Along t out₀ at out done seen to → length (front notLf t) ≤ seen → Put out out₀ at (dropEnd isAsciiBlank (front notLf t)) to
+along-end {t} {out₀} {at} {out} {done} {seen} s h =
+    let all : take (seen - done) (drop done (front notLf t)) ≡ drop done (front notLf t) = take-all (seen - done) (drop done (front notLf t)) (rw length-drop (omega (arith, h))) in
+    finish (s .toward) (nothing (dropEnd isAsciiBlank (drop done (front notLf t))) (sym (ap (λ (l : List ℕ). length (dropEnd isAsciiBlank l)) all) ∙ s .blank))
 
 abbrev Inv-loop : tie.InvT-loop
 Inv-loop t out₀ at done₀ seen₀ to₀ out done seen to = Along t out₀ at out done seen to
@@ -95,8 +202,8 @@ put-bytes-requires c κs =
     (splits (b .inv) (pc j) (kept j) (j .before .before .piece .ensures) (j .before .trim-ascii-end .ensures) (j .if1 .upto) (came j))
 
 -- the state behind a turn
-next : (p : tie.After-put-bytes Inv-loop μ-loop) → Along (l (p .before .before .before .before) .before .before .before .args .t .now) (l (p .before .before .before .before) .before .before .before .args .out .now) (l (p .before .before .before .before) .before .before .before .args .at) (p .put-bytes .last .1 .0) (p .before .before .before .before .if1 .upto) (l (p .before .before .before .before) .loop .seen + length (pc (p .before .before .before .before))) (l (p .before .before .before .before) .loop .to + (p .before .before .before .before .if1 .upto - l (p .before .before .before .before) .loop .done))
-next p =
+behind : (p : tie.After-put-bytes Inv-loop μ-loop) → Along (l (p .before .before .before .before) .before .before .before .args .t .now) (l (p .before .before .before .before) .before .before .before .args .out .now) (l (p .before .before .before .before) .before .before .before .args .at) (p .put-bytes .last .1 .0) (p .before .before .before .before .if1 .upto) (l (p .before .before .before .before) .loop .seen + length (pc (p .before .before .before .before))) (l (p .before .before .before .before) .loop .to + (p .before .before .before .before .if1 .upto - l (p .before .before .before .before) .loop .done))
+behind p =
     let j = p .before .before .before .before in
     along-next (l j .loop .inv) (pc j) (kept j) (j .before .before .piece .ensures) (j .before .trim-ascii-end .ensures) (j .if1 .upto) (came j) (p .put-bytes .ensures)
 
@@ -106,7 +213,7 @@ sub-to c = told (c .before .before .before .before .before .before) .to-upto
 add-to : tie.Need-add-to Inv-loop μ-loop
 add-to c =
     let p = c .before .before in
-    omega (arith, next p .toward .ends, l (p .before .before .before .before) .before .before .before .pre)
+    omega (arith, behind p .toward .ends, l (p .before .before .before .before) .before .before .before .pre)
 
 add-seen : tie.Need-add-seen Inv-loop μ-loop
 add-seen c = let f = told (c .before .before .before .before .before .before) in omega (arith, f .in-line, f .in-text)
@@ -119,7 +226,7 @@ returns c =
     let p = c .before .before .before in
     let j = p .before .before .before .before in
     let e = ended-here (l j .loop .inv) (pc j) (j .before .before .piece .ensures) (c .if2 .taken) in
-    record { put = along-end (next p) (omega (arith, e)); size = e }
+    record { put = along-end (behind p) (omega (arith, e)); size = e }
 
 loop-less : tie.Need-loop-less Inv-loop μ-loop
 loop-less c =
@@ -128,7 +235,7 @@ loop-less c =
     omega (arith, c .if2 .left, f .in-line, f .in-text)
 
 loop-again : tie.Need-loop-again Inv-loop μ-loop
-loop-again c = next (c .before .before .before)
+loop-again c = behind (c .before .before .before)
 
 pub put-pieces-spec : {M : Type 1} → statement M
 put-pieces-spec =

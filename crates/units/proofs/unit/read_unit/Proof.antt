@@ -1,12 +1,21 @@
 -- `units::unit::read_unit` meets its contract. Assumes nothing.
-use mathlib.Core.Path.{sym, _∙_}
+use mathlib.Core.Path.{sym, _∙_, _≡_}
+use mathlib.Core.List.{List, [], _∷_}
+use Prim.Native.Nat.{ℕ}
 use native.Mathlib.Omega.{arith}
-use Rattle.grammar.proofs.LineTurnLaws.{line-reads}
-use Rattle.grammar.proofs.BlockTurnLaws.{block-none, block-fault, block-gives}
-use Rattle.units.proofs.UnitLaws.{reading-none}
+use lib.ListN.{length}
+use Rattle.grammar.proofs.TurnLineLaws.{line-reads, line-none}
+use Rattle.grammar.proofs.TurnBlockLaws.{block-none, block-fault, block-gives}
+use Rattle.elements.specs.declared.LabelPosition.{LabelPosition}
+use Rattle.whole.specs.Reading.{nothing, readingOf}
+use Rattle.grammar.specs.Epl.{epl}
 use borrow.Author.Needs.{needs}
 use Rattle.units.proofs.unit.read_unit.Statement.{statement}
 use Rattle.units.proofs.unit.read_unit.Tie as tie
+
+reading-none : (t : List ℕ) (r : LabelPosition) → length t ≡ 0 → readingOf epl t r ≡ nothing
+reading-none [] r h = line-none r
+reading-none (b ∷ t) r h = absurd (omega arith)
 
 returns : tie.Need-returns
 returns c = let a = c .before .before .args in rw (reading-none (a .rest .now) (a .reference) (c .if1 .taken))

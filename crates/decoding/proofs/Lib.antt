@@ -1,2 +1,0 @@
--- how long decoded data is
-pub mod DecodingLaws

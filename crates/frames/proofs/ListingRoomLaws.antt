@@ -1,0 +1,139 @@
+-- A listing has at most 16 bytes for each byte of its input (`length-listing-le`, `never-short`): an element's line,
+-- with that of the label that it may make alone, is paid by its unit. Other laws of listings are in ListingLaws.
+-- Assumes nothing.
+use mathlib.Core.Path.{_≡_, refl, sym, ap, subst, _∙_}
+use mathlib.Core.List.{List, [], _∷_, _++_, map}
+use mathlib.Core.Logic.{_⊎_, inl, inr}
+use Prim.Native.Nat.{ℕ, zero, suc, _+_, _-_, _*_, _<_, _≤_}
+use native.Mathlib.Omega.{arith}
+use lib.ListN.{length, length-append}
+use borrow.Author.Tests.{le-ltb}
+use Rattle.elements.specs.declared.DataSpan.{DataSpan}
+use Rattle.elements.specs.declared.LabelElement.{LabelElement}
+use Rattle.elements.specs.declared.LabelElement.the-variants.{GraphicField}
+use Rattle.elements.specs.declared.LabelPosition.{LabelPosition}
+use Rattle.elements.specs.declared.plain.Data.{Data}
+use Rattle.elements.specs.declared.plain.Data.the-variants.{NoData, Payload, Decoded}
+use Rattle.elements.specs.Plain.{plainOf}
+use Rattle.elements.specs.Spans.{spansIn, spans, later, shifted}
+use Rattle.elements.proofs.PlainLaws.{spans-shifted}
+use Rattle.element_frames.specs.Frame.{frameOf, lens}
+use Rattle.element_frames.proofs.FrameLaws.{frame-le, frame-plain}
+use Rattle.parameters.specs.declared.position.Placed.{Placed}
+use Rattle.parameters.specs.declared.position.Placed.the-variants as placing
+use Rattle.parameters.specs.declared.reading.LineReading.the-variants as reading
+use Rattle.parameters.specs.Position.{placed, yields}
+use Rattle.whole.specs.Language.{yield}
+use Rattle.whole.specs.Step.{State, Answer, element, cleared, printed, ended, refused, step}
+use Rattle.whole.specs.Reach.{Final, accepted, refusal}
+use Rattle.elements.specs.Given.{fitting}
+use Rattle.whole.specs.Trace.{Trace, Goes, left, Outcome, listed, refusal-of, ending, final, labelsIn, trace, onAnswer}
+use Rattle.whole.proofs.TraceLaws.{trace-is, goes-step, Paid, paid-step}
+use Rattle.commands.specs.Line.{readLine}
+use Rattle.grammar.specs.Units.{Header, EplUnit, block, line, last, gw, bytes, number}
+use Rattle.grammar.specs.Epl.{epl, acts, blockSays}
+use Rattle.grammar.proofs.FoundLaws.{reads}
+use Rattle.grammar.proofs.FoundBlockLaws.{block-length}
+use Rattle.grammar.proofs.EplLaws.{act-yields}
+use Rattle.grammar.proofs.WellFormedLengthLaws.{Long, line-long}
+use Rattle.elements.specs.Walk.{fresh}
+use Rattle.walk.specs.Steps.{stateOf, traceOf}
+use Rattle.frames.specs.Listing.{FramedLabel, linesOf, labelLines, listingOf, outcomeOf, listingDue, dueOf}
+use Rattle.frames.specs.Printing.{shownOf, refusalBy, shownBy, printedOf}
+use Rattle.frames.proofs.ListingLaws.{length-lines, length-label}
+
+-- an element has one span of data or none
+one-span : (d : Data) → (spansIn d ≡ []) ⊎ ((x : DataSpan) × (spansIn d ≡ x ∷ []))
+one-span NoData = inl refl
+one-span (Payload d) = inr (d, refl)
+one-span (Decoded d) = inr (d, refl)
+
+-- a line of 2 digits a byte and an LF, and the 11 bytes of frame 00's line
+abbrev Pays : ℕ → LabelElement → Type 0
+Pays k e = (s : List ℕ) → 2 * length (frameOf s e) + 12 ≤ 16 * k
+
+-- a unit of n bytes whose element has the data ds: enough for its frame, or with a header of six bytes
+abbrev Enough : ℕ → List DataSpan → Type 0
+Enough n ds = (ds ≡ [] → 5 ≤ n) × ((d : DataSpan) → ds ≡ d ∷ [] → 90 + 6 * d .len ≤ 16 * n)
+
+enough-pays : (n at : ℕ) (e : LabelElement) → Enough n (spans e) → Pays n (shifted at e)
+enough-pays n at e h s = by (one-span (plainOf e .«data»))
+  where
+    by : (spans e ≡ []) ⊎ ((d : DataSpan) × (spans e ≡ d ∷ [])) → 2 * length (frameOf s (shifted at e)) + 12 ≤ 16 * n
+    by (inl q) = omega (arith, h .0 q, frame-plain s (shifted at e) (spans-shifted at e ∙ ap (map (later at)) q))
+    by (inr w) = omega (arith, h .1 (w .0) (w .1), frame-le s (shifted at e), ap lens (spans-shifted at e ∙ ap (map (later at)) (w .1)))
+
+line-enough : (n : ℕ) (ds : List DataSpan) → Long n ds → Enough n ds
+line-enough n ds l = (l .0, λ d q. omega (arith, l .1 d q))
+
+more-enough : (n m : ℕ) (ds : List DataSpan) → n ≤ m → Enough n ds → Enough m ds
+more-enough n m ds h e = (λ q. omega (arith, e .0 q), λ d q. omega (arith, e .1 d q))
+
+-- `GW` and four commas
+header-long : (bs : List ℕ) (h : Header) → 6 ≤ length (bs ++ gw h [])
+header-long bs h =
+    let l = h .lines ++ 44 ∷ [] in let w = h .width ++ 44 ∷ l in let y = h .y ++ 44 ∷ w in let x = h .x ++ 44 ∷ y in
+    omega (arith, length-append bs (71 ∷ 87 ∷ x), length-append (h .x) (44 ∷ y), length-append (h .y) (44 ∷ w), length-append (h .width) (44 ∷ l), length-append (h .lines) (44 ∷ []))
+
+block-enough : (n : ℕ) (e : LabelElement) (d : DataSpan) → spans e ≡ d ∷ [] → 6 + d .len ≤ n → Enough n (spans e)
+block-enough n e d q h =
+    (λ z. absurd (let k = ap length (sym z ∙ q) in omega arith), λ x z. let k : x ≡ d = head-is x d (sym z ∙ q) in omega (arith, ap (λ (y : DataSpan). y .len) k))
+  where
+    head-is : (x y : DataSpan) → _≡_ {A = List DataSpan} (x ∷ []) (y ∷ []) → x ≡ y
+    head-is x y e = cc
+
+unit-pays : (r : LabelPosition) (u : EplUnit) (e : LabelElement) (at : ℕ) → acts r u ≡ yield e → Pays (length (bytes u)) (shifted at e)
+unit-pays r (block bs h p) e at q = by (placed (number (h .x)) (number (h .y)) r) (act-yields r (blockSays bs h p r) e q)
+  where
+    by : (o : Placed) → yields o (λ x. GraphicField (record { position = x; «row_bytes» = number (h .width); «data» = record { start = length (bs ++ gw h []); len = length p } })) ≡ reading.Element e → Pays (length (bytes (block bs h p))) (shifted at e)
+    by (placing.At x) z =
+        let k : GraphicField (record { position = x; «row_bytes» = number (h .width); «data» = record { start = length (bs ++ gw h []); len = length p } }) ≡ e = cc in
+        enough-pays (length (bytes (block bs h p))) at e (block-enough (length (bytes (block bs h p))) e _ (ap spans (sym k)) (omega (arith, block-length bs h p, header-long bs h)))
+    by placing.Outside z = absurd (let k : _≡_ {A = ℕ} 0 1 = cc in omega arith)
+unit-pays r (line t) e at q =
+    enough-pays (length (t ++ 10 ∷ [])) at e (more-enough (length t) (length (t ++ 10 ∷ [])) (spans e) (omega (arith, length-append t (10 ∷ []))) (line-enough (length t) (spans e) (line-long t r e (act-yields r (readLine t r) e q))))
+unit-pays r (last t) e at q = enough-pays (length t) at e (line-enough (length t) (spans e) (line-long t r e (act-yields r (readLine t r) e q)))
+
+-- ---- along the walk
+-- at most so many bytes from a state, p being pending
+abbrev most : List ℕ → State LabelPosition → List (List ℕ) → ℕ
+most s st p = length (linesOf p) + 11 * st .pending + 16 * (length s - st .place)
+
+abbrev long : List ℕ → List (List ℕ) → Trace LabelElement Unit → ℕ
+long s p t = length (listingOf (labelsIn epl (List ℕ) frameOf s p t))
+
+by-answer : (s : List ℕ) (st : State LabelPosition) (p : List (List ℕ)) (a : Answer LabelPosition LabelElement Unit) → Goes s st a → Paid epl reads Pays unit-pays (st .place) a
+    → ((st′ : State LabelPosition) (q : List (List ℕ)) → left s st′ < left s st → long s q (trace epl s st′) ≤ most s st′ q)
+    → long s p (onAnswer epl (trace epl s) a) ≤ most s st p
+by-answer s st p (element e st′) g m again =
+    omega (arith, g .0, g .1, g .2, g .3, m .1, m .2 s, again st′ (p ++ (frameOf s e ∷ [])) (omega (arith, g .1, g .2, g .3)), length-lines p (frameOf s e))
+by-answer s st p (cleared st′) g m again = omega (arith, g .1, g .2, g .3, again st′ [] (omega (arith, g .1, g .2, g .3)))
+by-answer s st p (printed n q st′) g m again =
+    let t = trace epl s st′ in
+    omega (arith, g .1, g .2, g .3, g .4, g .5, again st′ [] (omega (arith, g .1, g .2, g .3, g .4, g .5)), length-label n q p, length-append (labelLines (record { count = n; says = q; frames = p })) (listingOf (labelsIn epl (List ℕ) frameOf s [] t)))
+by-answer s st p (ended st′) g m again = omega arith
+by-answer s st p (refused n k st′) g m again = omega arith
+
+bounded : (k : ℕ) (s : List ℕ) (st : State LabelPosition) (p : List (List ℕ)) → left s st < k → long s p (trace epl s st) ≤ most s st p
+bounded zero s st p h = absurd (omega arith)
+bounded (suc k) s st p h =
+    subst (λ (t : Trace LabelElement Unit). long s p t ≤ most s st p) (sym (trace-is epl reads s st))
+    (by-answer s st p (step epl s st) (goes-step epl reads s st) (paid-step epl reads Pays unit-pays s st) (λ st′ q b. bounded k s st′ q (omega arith)))
+
+ending-listed : (f : Final) (xs ls : List FramedLabel) → ending f xs ≡ listed ls → xs ≡ ls
+ending-listed accepted xs ls e = cc
+ending-listed (refusal n p) xs ls e = let z : _≡_ {A = ℕ} 0 1 = cc in absurd (omega arith)
+
+pub length-listing-le : (s : List ℕ) (ls : List FramedLabel) → outcomeOf s ≡ listed ls → length (listingOf ls) ≤ 16 * length s
+length-listing-le s ls e =
+    subst (λ (x : List FramedLabel). length (listingOf x) ≤ 16 * length s) (ending-listed (final (traceOf s fresh)) (labelsIn epl (List ℕ) frameOf s [] (traceOf s fresh)) ls e)
+    (omega (arith, bounded (suc (left s (stateOf fresh))) s (stateOf fresh) [] (omega arith)))
+
+-- a buffer of 16 bytes for each of 65,536 is never too short
+pub never-short : (s : List ℕ) → length s ≤ 65536 → printedOf s 1048576 ≡ shownOf (dueOf s)
+unfolding refusalBy
+never-short s h = rw (le-ltb 65536 (length s) h) (by (outcomeOf s) (length-listing-le s))
+  where
+    by : (o : Outcome (List ℕ) Unit) → ((ls : List FramedLabel) → o ≡ listed ls → length (listingOf ls) ≤ 16 * length s) → shownBy 1048576 (fitting (listingDue o) 1048576) ≡ shownOf (listingDue o)
+    by (listed ls) r = simp (le-ltb 1048576 (length (listingOf ls)) (omega (arith, r ls refl)))
+    by (refusal-of n p) r = refl

@@ -1,2 +1,0 @@
--- what the reader of a unit owes
-pub mod UnitLaws
