@@ -229,6 +229,8 @@ fn times() {
     let least = |rows: &[(f64, f64)]| rows.iter().map(|(mine, theirs)| theirs / mine).fold(f64::MAX, f64::min);
     let at = KINDS.iter().position(|kind| kind.name == graphics().name).unwrap();
     target("the walk on labels, times as fast as parse, at least 4", least(&walks[0]), |r| r >= 4.0);
+    let bars = KINDS.iter().position(|kind| kind.name == "bar codes").unwrap();
+    target("the walk on bar codes, times as fast as parse, at least 4", least(&walks[bars]), |r| r >= 4.0);
     target("normalise on graphics, times as fast as format_epl, at least 2", least(&texts[at]), |r| r >= 2.0);
     target("normalise on every input, times as fast as format_epl, at least 2", texts.iter().map(|rows| least(rows)).fold(f64::MAX, f64::min), |r| r >= 2.0);
     target("normalise on graphics, times the time of a copy, at most 3", beside, |r| r <= 3.0);

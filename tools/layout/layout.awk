@@ -3,10 +3,10 @@
 BEGIN {
   size["u8"] = 1; size["i32"] = 4; size["u32"] = 4; size["usize"] = 8; size["f64"] = 8
   if (to == "c") {
-    host["Answer"] = "laddertick_answer"; host["Element"] = "laddertick_element"; host["WalkState"] = "laddertick_walk"; host["Written"] = "laddertick_written"
+    host["FlatAnswer"] = "laddertick_answer"; host["Element"] = "laddertick_element"; host["WalkState"] = "laddertick_walk"; host["Written"] = "laddertick_written"
     type["u8"] = "uint8_t"; type["i32"] = "int32_t"; type["u32"] = "uint32_t"; type["usize"] = "size_t"; type["f64"] = "double"
   } else {
-    host["Answer"] = "Answer"; host["Element"] = "Element"; host["WalkState"] = "Walk"; host["Written"] = "Written"
+    host["FlatAnswer"] = "Answer"; host["Element"] = "Element"; host["WalkState"] = "Walk"; host["Written"] = "Written"
     for (t in size) type[t] = t
   }
   for (s in host) type[s] = host[s]
