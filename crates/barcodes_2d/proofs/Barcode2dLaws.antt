@@ -77,7 +77,9 @@ clamped-le lo hi (negsuc z) = min-le lo hi
 
 pub clamped-or-le : (d lo hi : ℕ) (n : Number) → d ≤ hi → mag (clampedOr (pos d) (pos lo) (pos hi) n) ≤ hi
 clamped-or-le d lo hi (number.Value z) h = clamped-le lo hi z
-clamped-or-le d lo hi number.Other h = h
+clamped-or-le d lo hi number.Empty h = h
+clamped-or-le d lo hi number.NoNumber h = h
+clamped-or-le d lo hi number.Beyond h = h
 
 pub four-fits : (z : ℤ) → mag z ≤ 9 → mag (pos 4 *ℤ z) < 2147483648
 four-fits (pos n) h = omega arith

@@ -110,12 +110,14 @@ any-by : (t : Bool) (x v : List ℕ) (n : ℕ) → Good x → SaysNumber n v →
 any-by true x v n g h = g .number
 any-by false x v n g h = h
 
-value-by : (t : Bool) (n : ℕ) → isValue (cond t (number.Value (pos n)) number.Other) ≡ t
-value-by true n = refl
-value-by false n = refl
+value-by : (t a b : Bool) (n : ℕ) → isValue (cond t (number.Value (pos n)) (cond a number.Beyond (cond b number.NoNumber number.Empty))) ≡ t
+value-by true a b n = refl
+value-by false true b n = refl
+value-by false false true n = refl
+value-by false false false n = refl
 
 is-number : (x : List ℕ) → Good x → isNumber x ≡ ltb (magnitude x) 2147483648
-is-number x g = ap isValue (g .number) ∙ value-by (ltb (magnitude x) 2147483648) (magnitude x)
+is-number x g = ap isValue (g .number) ∙ value-by (ltb (magnitude x) 2147483648) (eqb (magnitude x) 2147483648) (eqb (magnitude x) 2147483649) (magnitude x)
 
 number-if : (u : Bool) (x v : List ℕ) (m n : ℕ) → SaysNumber m x → SaysNumber n v → SaysNumber (cond u m n) (cond u x v)
 number-if true x v m n g h = g
@@ -152,7 +154,7 @@ truncate-by false x v z h = h
 
 -- of the record that is taken of s
 module _ (s : List ℕ) {r : Options} (e : r ≡ allTaken noOptions (optionsOf s)) where
-  module _ (p : ℕ) (f : Options → ℕ) (none : f noOptions ≡ 2147483648) where
+  module _ (p : ℕ) (f : Options → ℕ) (none : f noOptions ≡ 2147483650) where
     start : SaysNumber (f noOptions) []
     unfolding numberSpelled
     start = rw none refl

@@ -25,21 +25,28 @@ no-letter x e =
     let h = within-high 48 57 x e in
     simp (lt-leb 65 x (omega arith), lt-leb 97 x (omega arith))
 
--- 2^31 and more are none, whatever follows
+cap-small : (v : ℕ) → v ≤ 2147483648 → cap v ≡ v
+cap-small v h =
+    test (ltb v 2147483648)
+    (λ e. simp e)
+    (λ e. simp e (omega (arith, ltb-false v 2147483648 e)))
 
-held-by : (t : Bool) (o : Option ℕ) → held o ≡ 2147483648 → held (cond t o none) ≡ 2147483648
-held-by true o h = h
-held-by false o h = refl
+cap-le : (v : ℕ) → cap v ≤ 2147483648
+cap-le v = test (ltb v 2147483648) (λ e. rw e (omega (arith, ltb-true v 2147483648 e))) (λ e. rw e (omega arith))
 
-held-big : (xs : List ℕ) (acc : ℕ) → 2147483648 ≤ acc → held (valueFrom acc xs) ≡ 2147483648
-held-big [] acc h = simp (le-ltb acc 2147483648 h)
-held-big (x ∷ xs) acc h = held-by (isDigit x) (valueFrom (acc * 10 + (x - 48)) xs) (held-big xs (acc * 10 + (x - 48)) (omega arith))
-
-held-cap : (xs : List ℕ) (acc : ℕ) → held (valueFrom acc xs) ≡ held (valueFrom (cap acc) xs)
-held-cap xs acc =
+-- a sum that has passed 2^31 is read on from 2^31
+cap-digit : (acc d : ℕ) → cap (acc * 10 + d) ≡ cap (cap acc * 10 + d)
+cap-digit acc d =
     test (ltb acc 2147483648)
     (λ e. simp e)
-    (λ e. held-big xs acc (ltb-false acc 2147483648 e) ∙ sym (simp e (held-big xs 2147483648 (omega arith))))
+    (λ e. let h = ltb-false acc 2147483648 e in rw e (simp (le-ltb (acc * 10 + d) 2147483648 (omega arith), le-ltb (2147483648 * 10 + d) 2147483648 (omega arith))))
+
+held-cap : (xs : List ℕ) (acc : ℕ) → held (valueFrom acc xs) ≡ held (valueFrom (cap acc) xs)
+held-cap [] acc = sym (cap-small (cap acc) (cap-le acc))
+held-cap (x ∷ xs) acc =
+    test (isDigit x)
+    (λ e. simp e (held-cap xs (acc * 10 + (x - 48)) ∙ ap (λ (n : ℕ). held (valueFrom n xs)) (cap-digit acc (x - 48)) ∙ sym (held-cap xs (cap acc * 10 + (x - 48)))))
+    (λ e. simp e)
 
 -- the digits from `from` on, read up to `end`, where they are worth v so far
 pub record Ran (s : List ℕ) (from v end : ℕ) : Type 0 where
@@ -81,7 +88,7 @@ module _ (s : List ℕ) (i : ℕ) (h : i < length s) where
         record {
           low = omega (arith, r .low);
           high = omega arith;
-          small = test (ltb (v * 10 + (x - 48)) 2147483648) (λ d. rw d (omega (arith, ltb-true (v * 10 + (x - 48)) 2147483648 d))) (λ d. rw d (omega arith));
+          small = cap-le (v * 10 + (x - 48));
           number = r .number ∙ ap (λ (l : List ℕ). held (valueFrom v l)) f ∙ (simp e (held-cap (front isDigit (drop (i + 1) s)) (v * 10 + (x - 48))));
           size = r .size ∙ ap (λ (l : List ℕ). i + length l) f ∙ omega arith;
         }
@@ -102,12 +109,6 @@ other : (v : List ℕ) → (length v ≡ 1 → ⊥) → aloneOf v ≡ 0
 other [] h = refl
 other (b ∷ []) h = absurd (h refl)
 other (b ∷ c ∷ v) h = refl
-
-cap-small : (v : ℕ) → v ≤ 2147483648 → cap v ≡ v
-cap-small v h =
-    test (ltb v 2147483648)
-    (λ e. simp e)
-    (λ e. simp e (omega (arith, ltb-false v 2147483648 e)))
 
 -- where the digits end, the value is read
 module _ {s : List ℕ} {from v end : ℕ} (r : Ran s from v end) (z : front isDigit (drop end s) ≡ []) where
@@ -132,17 +133,17 @@ module _ {s : List ℕ} {from v end : ℕ} (r : Ran s from v end) (z : front isD
 -- a letter, and neither
 
 module _ (s : List ℕ) (i : ℕ) (h : i < length s) where
-  pub letter-value : isLetter (getD s i 0) ≡ true → isDigit (getD s i 0) ≡ false → ValueAt s i (record { number = 2147483648; alone = getD s i 0; next = i + 1 })
+  pub letter-value : isLetter (getD s i 0) ≡ true → isDigit (getD s i 0) ≡ false → ValueAt s i (record { number = 2147483649; alone = getD s i 0; next = i + 1 })
   letter-value e d =
       let v : valueOf (drop i s) ≡ getD s i 0 ∷ [] = ap valueOf (here s i h) ∙ simp e in
       record { number = sym (ap magnitude v ∙ simp d); alone = sym (ap aloneOf v); next = sym (rw v (omega arith)); fits = omega arith }
 
-  pub no-value : isLetter (getD s i 0) ≡ false → isDigit (getD s i 0) ≡ false → ValueAt s i (record { number = 2147483648; alone = 0; next = i })
+  pub no-value : isLetter (getD s i 0) ≡ false → isDigit (getD s i 0) ≡ false → ValueAt s i (record { number = 2147483650; alone = 0; next = i })
   no-value e d =
       let v : valueOf (drop i s) ≡ [] = ap valueOf (here s i h) ∙ simp (e, d) in
       record { number = sym (ap magnitude v); alone = sym (ap aloneOf v); next = sym (rw v (omega arith)); fits = omega arith }
 
-pub end-value : (s : List ℕ) (i : ℕ) → i ≤ length s → length s ≤ i → ValueAt s i (record { number = 2147483648; alone = 0; next = i })
+pub end-value : (s : List ℕ) (i : ℕ) → i ≤ length s → length s ≤ i → ValueAt s i (record { number = 2147483650; alone = 0; next = i })
 end-value s i l h =
     let v : valueOf (drop i s) ≡ [] = ap valueOf (drop-of-length-le s {i = i} h) in
     record { number = sym (ap magnitude v); alone = sym (ap aloneOf v); next = sym (rw v (omega arith)); fits = l }

@@ -29,17 +29,21 @@ valueOf (y ∷ s) = cond (isLetter y) (y ∷ []) (front isDigit (y ∷ s))
 abbrev pub cap : ℕ → ℕ
 cap n = cond (ltb n 2147483648) n 2147483648
 
--- a number as the record holds it: 2^31 is none
+-- what digits held as the record has it: 2^31 is a number beyond 32 bits, 2^31 + 1 no number
 abbrev pub held : Option ℕ → ℕ
-held none = 2147483648
+held none = 2147483649
 held (some n) = cap n
 
+-- what a value held; 2^31 + 2 is an empty one
 abbrev pub magnitude : List ℕ → ℕ
-magnitude v = held (digitsOf v)
+magnitude [] = 2147483650
+magnitude (b ∷ v) = held (digitsOf (b ∷ v))
 
--- and back
+-- the answer of the number reader that n stands for
 abbrev pub numberOf : ℕ → Number
-numberOf n = cond (ltb n 2147483648) (number.Value (pos n)) number.Other
+numberOf n =
+    cond (ltb n 2147483648) (number.Value (pos n))
+    (cond (eqb n 2147483648) number.Beyond (cond (eqb n 2147483649) number.NoNumber number.Empty))
 
 -- the byte that a value is, or 0
 abbrev pub aloneOf : List ℕ → ℕ
@@ -84,17 +88,17 @@ taken k b n a =
 abbrev pub noOptions : Options
 noOptions =
     record {
-      c = 2147483648;
-      d = 2147483648;
-      e = 2147483648;
-      h = 2147483648;
-      l = 2147483648;
-      m = 2147483648;
-      o = 2147483648;
-      r = 2147483648;
-      s = 2147483648;
-      x = 2147483648;
-      y = 2147483648;
+      c = 2147483650;
+      d = 2147483650;
+      e = 2147483650;
+      h = 2147483650;
+      l = 2147483650;
+      m = 2147483650;
+      o = 2147483650;
+      r = 2147483650;
+      s = 2147483650;
+      x = 2147483650;
+      y = 2147483650;
       level = 0;
       truncate = false;
     }

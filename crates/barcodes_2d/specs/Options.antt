@@ -35,7 +35,9 @@ optionsOf (x ∷ y ∷ s) =
 
 abbrev pub isValue : Number → Bool
 isValue (number.Value z) = true
-isValue number.Other = false
+isValue number.Empty = false
+isValue number.NoNumber = false
+isValue number.Beyond = false
 
 -- a value is digits within 32 bits
 abbrev pub isNumber : List ℕ → Bool
@@ -82,7 +84,9 @@ clamped lo hi v = minZ (maxZ v lo) hi
 -- a number within lo to hi, d where there is none
 abbrev pub clampedOr : ℤ → ℤ → ℤ → Number → ℤ
 clampedOr d lo hi (number.Value z) = clamped lo hi z
-clampedOr d lo hi number.Other = d
+clampedOr d lo hi number.Empty = d
+clampedOr d lo hi number.NoNumber = d
+clampedOr d lo hi number.Beyond = d
 
 -- the last value of the letter p that is a number, brought within lo to hi; d, as it is, where none is
 unfoldable pub lastClamped : ℕ → ℤ → ℤ → ℤ → List Setting → ℤ

@@ -13,6 +13,8 @@ use bytes::class::is_digit;
 use bytes::class::is_letter;
 use numbers::int::max;
 use numbers::int::min;
+use numbers::number::Number;
+use numbers::number::or_default;
 
 // Which values of a parameter count: the definitions' word for the three rules that `with_option` follows.
 pub enum Wanted {
@@ -23,10 +25,29 @@ pub enum Wanted {
     Level,
 }
 
-// No number within 32 bits: a value has no sign, so that 2^31 is the least that is none.
-pub const NONE: u32 = 2147483648;
+// What a value held, in one number, which the compiler keeps in a register: a value has no sign, so that all from 2^31 on
+// are free for the answers that are no value.
+pub const BEYOND: u32 = 2147483648;
+pub const NO_NUMBER: u32 = 2147483649;
+pub const EMPTY: u32 = 2147483650;
 
-// The value of a letter: its number, or NONE; its byte where it is one byte, else 0; and the place behind it.
+// The answer of the number reader that n stands for.
+fn told(n: u32) -> Number
+    ensures { λ r. ⌜ r ≡ numberOf n ⌝ }
+{
+    if n < BEYOND {
+        return Number::Value(n as i32);
+    }
+    if n == BEYOND {
+        return Number::Beyond;
+    }
+    if n == NO_NUMBER {
+        return Number::NoNumber;
+    }
+    Number::Empty
+}
+
+// The value of a letter: what it held; its byte where it is one byte, else 0; and the place behind it.
 pub struct Value {
     pub number: u32,
     pub alone: u8,
@@ -74,22 +95,22 @@ fn value_from(s: &[u8], from: usize) -> Value
         }
         if is_letter(b) {
             return Value {
-                number: NONE,
+                number: NO_NUMBER,
                 alone: b,
                 next: from + 1,
             };
         }
     }
     Value {
-        number: NONE,
+        number: EMPTY,
         alone: 0,
         next: from,
     }
 }
 
 // What counts of each letter that some type has; a letter has one rule in every type, `e` one for Aztec and one for QR.
-// Of `c`, `l`, `m`, `r` the number of the last, or NONE; of the others the last number. The last level letter, or 0.
-// Whether the last `t` is 1.
+// Of `c`, `l`, `m`, `r` what the last one held; of the others the last number. The last level letter, or 0. Whether the
+// last `t` is 1.
 pub struct Options {
     pub c: u32,
     pub d: u32,
@@ -110,7 +131,7 @@ pub struct Options {
 fn number_over(n: u32, before: u32) -> u32
     ensures { λ r. ⌜ r ≡ numberOver n before ⌝ }
 {
-    if n < NONE { n } else { before }
+    if n < BEYOND { n } else { before }
 }
 
 // The letter a, where it is a level; else the one before it.
@@ -176,17 +197,17 @@ fn no_options() -> Options
     ensures { λ r. ⌜ r ≡ noOptions ⌝ }
 {
     Options {
-        c: NONE,
-        d: NONE,
-        e: NONE,
-        h: NONE,
-        l: NONE,
-        m: NONE,
-        o: NONE,
-        r: NONE,
-        s: NONE,
-        x: NONE,
-        y: NONE,
+        c: EMPTY,
+        d: EMPTY,
+        e: EMPTY,
+        h: EMPTY,
+        l: EMPTY,
+        m: EMPTY,
+        o: EMPTY,
+        r: EMPTY,
+        s: EMPTY,
+        x: EMPTY,
+        y: EMPTY,
         level: 0,
         truncate: false,
     }
@@ -214,7 +235,7 @@ pub(crate) fn options_of(s: &[u8]) -> Options
 pub(crate) fn number_or(n: u32, default: i32) -> i32
     ensures { λ r. ⌜ r ≡ numberOr default (numberOf n) ⌝ }
 {
-    if n < NONE { n as i32 } else { default }
+    or_default(told(n), default)
 }
 
 // v, or the nearest of lo and hi.
@@ -228,9 +249,10 @@ pub(crate) fn clamp(v: i32, lo: i32, hi: i32) -> i32
 pub(crate) fn clamped_or(n: u32, default: i32, lo: i32, hi: i32) -> i32
     ensures { λ r. ⌜ r ≡ clampedOr default lo hi (numberOf n) ⌝ }
 {
-    if n < NONE {
-        clamp(n as i32, lo, hi)
-    } else {
-        default
+    match told(n) {
+        Number::Value(v) => clamp(v, lo, hi),
+        Number::Empty => default,
+        Number::NoNumber => default,
+        Number::Beyond => default,
     }
 }

@@ -20,9 +20,7 @@ use Rattle.text.proofs.BoolLaws.{test, and-both}
 use Rattle.text.proofs.DropLaws.{drop-while-le}
 use Rattle.text.proofs.FieldsLaws.{same-length, same-true}
 use Rattle.numbers.specs.Number.{numberSpelled}
-use Rattle.parameters.specs.Params.{numberAt, numberFrom}
-use Rattle.parameters.specs.declared.field_reader.Numbered.{Numbered}
-use Rattle.parameters.proofs.PlaceLaws.{number-value}
+use Rattle.parameters.specs.Params.{numberAt}
 use Rattle.elements.specs.declared.refusal.Refusal.{Refusal}
 use Rattle.elements.specs.declared.refusal.Refusal.the-variants as refusal
 use Rattle.graphics.specs.declared.gw_span.Graphic.the-variants as graphic
@@ -41,47 +39,42 @@ index-front (b ∷ u) =
     (λ e. let k = and-both (not (eqb b 44)) (not (eqb b 10)) e in simp (not-true (eqb b 44) (k .0), not-true (eqb b 10) (k .1), index-front u))
     (λ e. simp e)
 
-module _ (t : List ℕ) (at n : ℕ) (f : FieldLen (drop at t) n) where
+-- the field is n bytes long and has the number v
+module _ (t : List ℕ) (at n : ℕ) {v : ℤ} (f : FieldLen (drop at t) n) (k : v ≡ numberAt (pos 0) (take (at + n - at) (drop at t))) where
   ends : dropWhile inField (drop at t) ≡ drop (at + n) t
   ends = sym (f .left) ∙ drop-drop n at t
 
-  -- a comma ends it
-  read-comma : (v : ℤ) → at + n < length t → getD t (at + n) 0 ≡ 44 → v ≡ headerNumber (drop at t) → HeaderRead t at (record { closed = true; value = v; next = at + n + 1 })
+  its-number : v ≡ headerNumber (drop at t)
+  unfolding headerNumber numberAt before
+  its-number =
+      let m : at + n - at ≡ n = omega arith in
+      (rw m at k) ∙ rw (f .is, index-front (drop at t), take-length (front inField (drop at t)))
+
+  pub read-comma : at + n < length t → getD t (at + n) 0 ≡ 44 → HeaderRead t at (record { closed = true; value = v; next = at + n + 1 })
   unfolding closes afterHeaderField
-  read-comma v h e k =
+  read-comma h e =
       record {
         is = rw (ends, drop-cons t (at + n) 0) (simp (eq-eqb (getD t (at + n) 0) 44 e));
-        number = λ _. k;
+        number = its-number;
         behind = λ _. rw ends (drop-drop 1 (at + n) t);
         fits = omega arith;
       }
 
-  pub read-empty : at + n < length t → getD t (at + n) 0 ≡ 44 → n ≡ 0 → HeaderRead t at (record { closed = true; value = pos 0; next = at + n + 1 })
-  unfolding headerNumber numberSpelled
-  read-empty h e z = read-comma (pos 0) h e (rw (← f .is, z))
-
-  pub read-number : {r : Numbered} → at + n < length t → getD t (at + n) 0 ≡ 44 → r ≡ numberFrom (pos 0) (take (at + n - at) (drop at t)) 0 → HeaderRead t at (record { closed = true; value = r .value; next = at + n + 1 })
-  unfolding headerNumber numberAt before
-  read-number {r} h e k =
-      let m : at + n - at ≡ n = omega arith in
-      read-comma (r .value) h e
-      (number-value (pos 0) (take n (drop at t)) 0 refl (rw m at k) ∙ rw (f .is, index-front (drop at t), take-length (front inField (drop at t))))
-
-  -- no comma ends it: it has no number
-  unclosed : at ≤ length t → closes (drop at t) ≡ false → HeaderRead t at (record { closed = false; value = pos 0; next = at + n })
+  -- no comma ends it
+  unclosed : at ≤ length t → closes (drop at t) ≡ false → HeaderRead t at (record { closed = false; value = v; next = at + n })
   unclosed h e =
       record {
         is = sym e;
-        number = λ c. absurd (true≢false (sym c));
+        number = its-number;
         behind = λ c. absurd (true≢false (sym c));
         fits = omega (arith, f .fits, length-drop at t);
       }
 
-  pub read-other : at + n < length t → (getD t (at + n) 0 ≡ 44 → ⊥) → HeaderRead t at (record { closed = false; value = pos 0; next = at + n })
+  pub read-other : at + n < length t → (getD t (at + n) 0 ≡ 44 → ⊥) → HeaderRead t at (record { closed = false; value = v; next = at + n })
   unfolding closes
   read-other h e = unclosed (omega arith) (rw (ends, drop-cons t (at + n) 0) (simp (ne-eqb (getD t (at + n) 0) 44 e)))
 
-  pub read-end : at ≤ length t → length t ≤ at + n → HeaderRead t at (record { closed = false; value = pos 0; next = at + n })
+  pub read-end : at ≤ length t → length t ≤ at + n → HeaderRead t at (record { closed = false; value = v; next = at + n })
   unfolding closes
   read-end h e = unclosed h (rw (ends, drop-of-length-le t))
 
@@ -154,7 +147,7 @@ pub record Closed (t : List ℕ) (at : ℕ) (x : HeaderField) : Type 0 where
 
 module _ {t : List ℕ} {at : ℕ} {x : HeaderField} (h : HeaderRead t at x) where
   pub closed : not (x .closed) ≡ false → Closed t at x
-  closed c = let k = not-false (x .closed) c in record { is = sym (h .is) ∙ k; number = sym (h .number k); behind = h .behind k }
+  closed c = let k = not-false (x .closed) c in record { is = sym (h .is) ∙ k; number = sym (h .number); behind = h .behind k }
 
   not-closed : not (x .closed) ≡ true → closes (drop at t) ≡ false
   not-closed c = sym (h .is) ∙ not-true (x .closed) c

@@ -144,10 +144,10 @@ pub record FieldLen (t : List ℕ) (r : ℕ) : Type 0 where
   pub left : drop r t ≡ dropWhile inField t
   pub fits : r ≤ length t
 
--- what `header_from` answers of the field at a place of t: whether a comma closes it; where one does, its number and
+-- what `header_from` answers of the field at a place of t: its number, and whether a comma closes it; where one does,
 -- the place of what follows
 pub record HeaderRead (t : List ℕ) (at : ℕ) (r : HeaderField) : Type 0 where
   pub is : r .closed ≡ closes (drop at t)
-  pub number : r .closed ≡ true → r .value ≡ headerNumber (drop at t)
+  pub number : r .value ≡ headerNumber (drop at t)
   pub behind : r .closed ≡ true → afterHeaderField (drop at t) ≡ drop (r .next) t
   pub fits : r .next ≤ length t

@@ -11,7 +11,7 @@ use elements::GraphicField;
 use elements::LabelElement;
 use elements::LabelPosition;
 use elements::refusal::Refusal;
-use parameters::params::number_from;
+use parameters::params::first_number;
 use parameters::params::tail_two;
 use parameters::position::Placed;
 use parameters::position::place;
@@ -77,7 +77,7 @@ pub(crate) fn header_field_len(t: &[u8]) -> usize
     i
 }
 
-// A header field: whether a comma closes it, before an LF or the end. Where one does: its number, or 0, and the place
+// A header field: its number, or 0, and whether a comma closes it, before an LF or the end. Where one does: the place
 // behind the comma.
 pub struct HeaderField {
     pub closed: bool,
@@ -85,33 +85,27 @@ pub struct HeaderField {
     pub next: usize,
 }
 
-// The header field at a place. Empty fields, which hostile files are full of, have no number to look for.
+// The header field at a place. Its number is read before its end is looked at: for an empty field, which hostile files
+// are full of, that is fastest.
 fn header_from(t: &[u8], at: usize) -> HeaderField
     requires { ⌜ at ≤ length (now t) ⌝ }
     ensures { λ r. ⌜ HeaderRead (now (t .entry)) at r ⌝ }
 {
     let n = header_field_len(&t[at..]);
     let end = at + n;
+    let value = first_number(&t[at..end], 0);
     if end < t.len() {
         if t[end] == b',' {
-            if n == 0 {
-                return HeaderField {
-                    closed: true,
-                    value: 0,
-                    next: end + 1,
-                };
-            }
-            let v = number_from(&t[at..end], 0, 0);
             return HeaderField {
                 closed: true,
-                value: v.value,
+                value,
                 next: end + 1,
             };
         }
     }
     HeaderField {
         closed: false,
-        value: 0,
+        value,
         next: end,
     }
 }

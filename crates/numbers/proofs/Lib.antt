@@ -3,3 +3,4 @@ pub mod TwosLaws
 pub mod NanLaws
 pub mod NumberLaws
 pub mod PlainLaws
+pub mod Cases

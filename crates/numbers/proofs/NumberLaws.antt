@@ -4,7 +4,7 @@ use mathlib.Core.Path.{_≡_, refl, ap}
 use mathlib.Core.Bool.{Bool, true, false, cond}
 use mathlib.Core.List.{List, [], _∷_}
 use mathlib.Core.Option.{Option, none, some}
-use Prim.Native.Nat.{ℕ, zero, suc, _+_, _-_, _*_, _<_, _≤_}
+use Prim.Native.Nat.{ℕ, zero, suc, _+_, _-_, _*_, _<_, _≤_, min}
 use native.Mathlib.Numerals.{add-one}
 use native.Mathlib.Nat.{not-suc-le-zero}
 use native.Mathlib.Omega.{arith}
@@ -15,20 +15,26 @@ use lib.IntN.{pos, negsuc, negℤ, _-ℤ_}
 use lib.Signed.{mag}
 use borrow.Author.Tests.{le-leb, lt-leb, lt-ltb, le-ltb, leb-true, leb-false}
 use Rattle.text.specs.Class.{isDigit}
+use Rattle.text.proofs.BoolLaws.{test}
 use Rattle.numbers.specs.Number.{valueFrom, digitsOf, capped, ranged, signed, numberSpelled}
-use Rattle.numbers.specs.declared.number.Number.the-variants.{Value, Other}
-use Rattle.numbers.specs.declared.number.Magnitude.the-variants.{Upto, Bad}
+use Rattle.numbers.specs.declared.number.Number.the-variants.{Value, Empty, NoNumber, Beyond}
+use Rattle.numbers.specs.declared.number.Magnitude.the-variants.{Upto, Over, Bad}
 use Rattle.numbers.proofs.IntLaws.{mag-neg-pos}
 
--- more digits make no value smaller
+-- above 2^31 all values are alike: more digits make none smaller
 
-big-by : (t : Bool) (o : Option ℕ) → capped o ≡ Bad → capped (cond t o none) ≡ Bad
-big-by true o h = h
-big-by false o h = refl
+over-same : (xs : List ℕ) (a b : ℕ) → 2147483648 < a → 2147483648 < b → capped (valueFrom a xs) ≡ capped (valueFrom b xs)
+over-same [] a b h k = simp (lt-leb a 2147483648 h, lt-leb b 2147483648 k)
+over-same (x ∷ xs) a b h k =
+    test (isDigit x)
+    (λ e. simp e (over-same xs (a * 10 + (x - 48)) (b * 10 + (x - 48)) (omega arith) (omega arith)))
+    (λ e. simp e)
 
-big : (xs : List ℕ) (acc : ℕ) → 2147483648 < acc → capped (valueFrom acc xs) ≡ Bad
-big [] acc h = simp (lt-leb acc 2147483648 h)
-big (x ∷ xs) acc h = big-by (isDigit x) (valueFrom (acc * 10 + (x - 48)) xs) (big xs (acc * 10 + (x - 48)) (omega arith))
+pub over-least : (xs : List ℕ) (a b : ℕ) → b ≡ min a 2147483649 → capped (valueFrom a xs) ≡ capped (valueFrom b xs)
+over-least xs a b h =
+    test (leb a 2147483648)
+    (λ e. let m : a ≡ b = omega (arith, leb-true a 2147483648 e) in ap (λ (n : ℕ). capped (valueFrom n xs)) m)
+    (λ e. over-same xs a b (leb-false a 2147483648 e) (omega (arith, leb-false a 2147483648 e)))
 
 -- digits one after the other
 
@@ -51,11 +57,11 @@ module _ (s : List ℕ) (i v : ℕ) (h : i < length s) where
     pub one-more : valueFrom v (drop i s) ≡ valueFrom (v * 10 + (getD s i 0 - 48)) (drop (i + 1) s)
     one-more = rw (add-one, drop-cons s i 0) (simp (le-leb 48 (getD s i 0) p, le-leb (getD s i 0) 57 q))
 
-    pub too-big : 2147483648 < v * 10 + (getD s i 0 - 48) → capped (valueFrom v (drop i s)) ≡ Bad
-    too-big l = rw one-more (big (drop (i + 1) s) (v * 10 + (getD s i 0 - 48)) l)
-
 pub all-read : (s : List ℕ) (i v : ℕ) → length s ≤ i → v ≤ 2147483648 → capped (valueFrom v (drop i s)) ≡ Upto v
 all-read s i v h l = rw (drop-of-length-le s) (simp (le-leb v 2147483648 l))
+
+pub all-over : (s : List ℕ) (i v : ℕ) → length s ≤ i → 2147483648 < v → capped (valueFrom v (drop i s)) ≡ Over
+all-over s i v h l = rw (drop-of-length-le s) (simp (lt-leb v 2147483648 l))
 
 -- the sign
 
@@ -71,7 +77,7 @@ ranged-minus v h = simp (lt-ltb (mag (negℤ (pos v))) 2147483648 (mag-minus v h
 
 -- what `digits` answered, and what that says of the digits
 
-upto-by : (t : Bool) (w v : ℕ) → leb w 2147483648 ≡ t → Upto v ≡ cond t (Upto w) Bad → (some w ≡ some v) × (v ≤ 2147483648)
+upto-by : (t : Bool) (w v : ℕ) → leb w 2147483648 ≡ t → Upto v ≡ cond t (Upto w) Over → (some w ≡ some v) × (v ≤ 2147483648)
 upto-by true w v e p = let q : v ≡ w = cc in (cc, omega (arith, leb-true w 2147483648 e))
 upto-by false w v e p = let z : _≡_ {A = ℕ} 0 1 = cc in absurd (omega arith)
 
@@ -79,22 +85,30 @@ pub upto : (o : Option ℕ) (v : ℕ) → Upto v ≡ capped o → (o ≡ some v)
 upto none v p = let z : _≡_ {A = ℕ} 0 1 = cc in absurd (omega arith)
 upto (some w) v p = upto-by (leb w 2147483648) w v refl p
 
-over : (neg : Bool) (w : ℕ) → 2147483648 < w → ranged (cond neg (negℤ (pos w)) (pos w)) ≡ Other
-over true zero h = absurd (not-suc-le-zero h)
-over true (suc n) h = simp (le-ltb n 2147483648 (omega arith))
-over false w h = simp (le-ltb w 2147483648 (omega arith))
+above : (neg : Bool) (w : ℕ) → 2147483648 < w → ranged (cond neg (negℤ (pos w)) (pos w)) ≡ Beyond
+above true zero h = absurd (not-suc-le-zero h)
+above true (suc n) h = simp (le-ltb n 2147483648 (omega arith))
+above false w h = simp (le-ltb w 2147483648 (omega arith))
 
-bad-by : (t neg : Bool) (w : ℕ) → leb w 2147483648 ≡ t → Bad ≡ cond t (Upto w) Bad → signed neg (some w) ≡ Other
-bad-by true neg w e p = let z : _≡_ {A = ℕ} 0 1 = cc in absurd (omega arith)
-bad-by false neg w e p = over neg w (leb-false w 2147483648 e)
+over-by : (t neg : Bool) (w : ℕ) → leb w 2147483648 ≡ t → Over ≡ cond t (Upto w) Over → signed neg (some w) ≡ Beyond
+over-by true neg w e p = let z : _≡_ {A = ℕ} 0 1 = cc in absurd (omega arith)
+over-by false neg w e p = above neg w (leb-false w 2147483648 e)
 
-pub bad : (o : Option ℕ) (neg : Bool) → Bad ≡ capped o → signed neg o ≡ Other
+pub over : (o : Option ℕ) (neg : Bool) → Over ≡ capped o → signed neg o ≡ Beyond
+over none neg p = let z : _≡_ {A = ℕ} 0 1 = cc in absurd (omega arith)
+over (some w) neg p = over-by (leb w 2147483648) neg w refl p
+
+bad-by : (t neg : Bool) (w : ℕ) → Bad ≡ cond t (Upto w) Over → signed neg (some w) ≡ NoNumber
+bad-by true neg w p = let z : _≡_ {A = ℕ} 0 1 = cc in absurd (omega arith)
+bad-by false neg w p = let z : _≡_ {A = ℕ} 0 1 = cc in absurd (omega arith)
+
+pub bad : (o : Option ℕ) (neg : Bool) → Bad ≡ capped o → signed neg o ≡ NoNumber
 bad none neg p = refl
-bad (some w) neg p = bad-by (leb w 2147483648) neg w refl p
+bad (some w) neg p = bad-by (leb w 2147483648) neg w p
 
 -- a text's number by its first byte
 
-pub number-none : (s : List ℕ) → length s ≡ 0 → numberSpelled s ≡ Other
+pub number-none : (s : List ℕ) → length s ≡ 0 → numberSpelled s ≡ Empty
 unfolding numberSpelled
 number-none [] h = refl
 number-none (x ∷ xs) h = absurd (omega arith)

@@ -1,22 +1,41 @@
-// Number fields: an optional sign and digits, of any length. Reading, defaults and least values are apart.
+// Number fields: an optional sign and digits, of any length. What a field held, its default and its least value
+// (`int::max`) are apart.
 ghost use mathlib.Core.Path.{_≡_};
 ghost use mathlib.Core.Option.{some};
-ghost use Prim.Native.Nat.{_≤_};
+ghost use Prim.Native.Nat.{_≤_, min};
 ghost use lib.IntN.{pos, negℤ};
 ghost use Rattle.numbers.specs.Number.{digitsOf, capped, signed, numberSpelled, fieldNumber, numberOr, fieldOr};
 use crate::blank::trim;
 
+// What a field held. Its form comes before its range: 99999999999x is no number, 99999999999 is one beyond 32 bits.
 pub enum Number {
     Value(i32),
-    Other,
+    // Nothing but blanks.
+    Empty,
+    // Something else than an optional sign and digits: 12O, or a sign alone.
+    NoNumber,
+    // A number outside signed 32 bits.
+    Beyond,
 }
 
-// The value of digits, where it is at most 2^31.
+// The value of digits.
 enum Magnitude {
+    // At most 2^31.
     Upto(u64),
+    // More than that.
+    Over,
+    // A byte is no digit, or there is none.
     Bad,
 }
 
+// The smaller.
+fn least(a: u64, b: u64) -> u64
+    ensures { λ r. ⌜ r ≡ min a b ⌝ }
+{
+    if a < b { a } else { b }
+}
+
+// Every byte of s is looked at, since one that is no digit may stand last. A value above 2^31 is kept as 2^31 + 1.
 fn digits(s: &[u8]) -> Magnitude
     ensures { λ r. ⌜ r ≡ capped (digitsOf (now (s .entry))) ⌝ }
 {
@@ -33,11 +52,12 @@ fn digits(s: &[u8]) -> Magnitude
         if 57 < c {
             return Magnitude::Bad;
         }
-        v = v * 10 + ((c - 48) as u64);
-        if 2147483648 < v {
-            return Magnitude::Bad;
-        }
+        let w = v * 10 + ((c - 48) as u64);
+        v = least(w, 2147483649);
         i += 1;
+    }
+    if 2147483648 < v {
+        return Magnitude::Over;
     }
     Magnitude::Upto(v)
 }
@@ -61,7 +81,7 @@ fn with_sign(neg: bool, v: u64) -> Number
     if v < 2147483648 {
         Number::Value(v as i32)
     } else {
-        Number::Other // beyond 32 bits
+        Number::Beyond // 2147483648
     }
 }
 
@@ -70,16 +90,17 @@ fn after_sign(neg: bool, s: &[u8]) -> Number
 {
     match digits(s) {
         Magnitude::Upto(v) => with_sign(neg, v),
-        Magnitude::Bad => Number::Other,
+        Magnitude::Over => Number::Beyond,
+        Magnitude::Bad => Number::NoNumber,
     }
 }
 
-// The number that s spells, with no blanks.
+// What s holds, with no blanks.
 pub fn parse(s: &[u8]) -> Number
     ensures { λ r. ⌜ r ≡ numberSpelled (now (s .entry)) ⌝ }
 {
     if s.len() == 0 {
-        return Number::Other;
+        return Number::Empty;
     }
     let c = s[0];
     if c == 45 {
@@ -91,8 +112,8 @@ pub fn parse(s: &[u8]) -> Number
     after_sign(false, s)
 }
 
-// A field's number: its Unicode blanks off first.
-fn field_number(f: &[u8]) -> Number
+// What a field held: its Unicode blanks off first.
+pub fn field_number(f: &[u8]) -> Number
     ensures { λ r. ⌜ r ≡ fieldNumber (now (f .entry)) ⌝ }
 {
     parse(trim(f))
@@ -104,7 +125,9 @@ pub fn or_default(n: Number, default: i32) -> i32
 {
     match n {
         Number::Value(v) => v,
-        Number::Other => default,
+        Number::Empty => default,
+        Number::NoNumber => default,
+        Number::Beyond => default,
     }
 }
 

@@ -76,10 +76,10 @@ module _ (s : List ℕ) (at n : ℕ) (h : at ≤ length s) (e : n ≡ at + index
   unfolding after
   next-end l = simp length-drop (omega (arith, index-le 44 (drop at s), length-drop at s))
 
--- a place past the end
-pub past-end : (d : ℤ) (s : List ℕ) (at : ℕ) → length s < at → record { value = d; next = length s } ≡ numberFrom d s at
+-- a place where nothing stands: its field is empty
+pub past-end : (d : ℤ) (s : List ℕ) (at : ℕ) {z : ℤ} → length s ≤ at → z ≡ d → record { value = z; next = length s } ≡ numberFrom d s at
 unfolding numberFrom numberAt before after numberSpelled
-past-end d s at h = rw (drop-of-length-le s {i = at} (omega arith)) (ap (λ (n : ℕ). record { value = d; next = n }) (omega arith))
+past-end d s at h e = rw (e, drop-of-length-le s {i = at} h) (ap (λ (n : ℕ). record { value = d; next = n }) (omega arith))
 
 -- a field's number, whose comma or end is n bytes off
 module _ (d : ℤ) (s : List ℕ) (at n : ℕ) (z : ℤ) (h : at ≤ length s) (e : n ≡ indexOf 44 (drop at s)) (v : z ≡ fieldOr d (take (at + n - at) (drop at s))) where

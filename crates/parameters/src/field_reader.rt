@@ -7,7 +7,9 @@ ghost use Prim.Native.Nat.{_≤_};
 ghost use lib.ListN.{length, drop};
 ghost use Rattle.parameters.specs.Params.{numberFrom};
 use bytes::scan::find;
+use numbers::number::Number;
 use numbers::number::number_or;
+use numbers::number::or_default;
 
 // A number field's value, and the place of what follows its comma.
 pub struct Numbered {
@@ -35,9 +37,9 @@ fn any_from(s: &[u8], at: usize, default: i32) -> Numbered
 fn number_at_place(s: &[u8], at: usize, default: i32) -> Numbered
     ensures { λ r. ⌜ r ≡ numberFrom default (now (s .entry)) at ⌝ }
 {
-    if s.len() < at {
+    if s.len() <= at {
         return Numbered {
-            value: default,
+            value: or_default(Number::Empty, default),
             next: s.len(),
         };
     }

@@ -8,7 +8,7 @@ ghost use lib.Dec.{leb};
 ghost use lib.ListN.{length, drop};
 ghost use Rattle.text.specs.Fields.{fields};
 ghost use Rattle.text.specs.Utf8.{within};
-ghost use Rattle.parameters.specs.Params.{Ran, alone, oneDigit, numberFrom, sizeFrom, pointFrom, typeAt, exactlyAt};
+ghost use Rattle.parameters.specs.Params.{Ran, alone, oneDigit, numberAt, numberFrom, sizeFrom, pointFrom, typeAt, exactlyAt};
 use crate::field_reader::Numbered;
 use crate::field_reader::new;
 use crate::field_reader::next_number;
@@ -18,6 +18,8 @@ use bytes::fields::first_field;
 use elements::LabelPosition;
 use numbers::blank::trim;
 use numbers::int::max;
+use numbers::number::Number;
+use numbers::number::or_default;
 
 // The number in the field at a place, or the default.
 pub fn field_from(s: &[u8], at: usize, default: i32) -> Numbered
@@ -52,9 +54,9 @@ fn digits_from(s: &[u8], at: usize) -> Digits
 fn digits_or_field(s: &[u8], at: usize, default: i32) -> Numbered
     ensures { λ r. ⌜ r ≡ numberFrom default (now (s .entry)) at ⌝ }
 {
-    if s.len() < at {
+    if s.len() <= at {
         return Numbered {
-            value: default,
+            value: or_default(Number::Empty, default),
             next: s.len(),
         };
     }
@@ -99,6 +101,17 @@ pub fn number_from(s: &[u8], at: usize, default: i32) -> Numbered
         };
     }
     digits_or_field(s, at, default)
+}
+
+// The number in the first field, or the default. Where s is empty, as fields of hostile files are, its field is told at
+// once. Small, so that it is inlined.
+pub fn first_number(s: &[u8], default: i32) -> i32
+    ensures { λ r. ⌜ r ≡ numberAt default (now (s .entry)) ⌝ }
+{
+    if s.len() == 0 {
+        return or_default(Number::Empty, default);
+    }
+    number_from(s, 0, default).value
 }
 
 // The number in the field at a place, or the default, where the least value is 1.

@@ -1,31 +1,55 @@
--- `barcodes_2d::options::clamped_or` meets its contract.
+-- `barcodes_2d::options::clamped_or` meets its contract, by the answer that n stands for.
 -- Assumes nothing.
-use mathlib.Core.Path.{_∙_}
-use mir.Syntax.{w32}
-use mir.Facts.{toZ-ofZ, toZ-pos}
+use mathlib.Core.Path.{_≡_, sym, ap, _∙_}
+use mir.Facts.{toZ-ofZ}
 use borrow.Author.Needs.{needs}
-use borrow.Author.Tests.{lt-ltb, le-ltb}
 use Rattle.numbers.proofs.IntLaws.{back32}
+use Rattle.numbers.specs.declared.number.Number.{Number}
+use Rattle.barcodes_2d.specs.Options.{clampedOr}
+use Rattle.barcodes_2d.specs.OptionSteps.{numberOf}
 use Rattle.barcodes_2d.proofs.options.clamped_or.Statement.{statement}
 use Rattle.barcodes_2d.proofs.options.clamped_or.Tie as tie
 
-cast-clamp : tie.Need-cast-clamp
-cast-clamp c = search needs
+-- by the variant that the code matched
+by : (d : tie.After-told) (q : Number) → d .told .result ≡ q → let a = d .before .args in clampedOr (a .default) (a .lo) (a .hi) q ≡ clampedOr (a .default) (a .lo) (a .hi) (numberOf (a .n))
+by d q e = let a = d .before .args in ap (clampedOr (a .default) (a .lo) (a .hi)) (sym e ∙ d .told .ensures)
+
+told-requires : tie.Need-told-requires
+told-requires c κs = search needs
+
+enum-known-v : tie.Need-enum-known-v
+enum-known-v c = search needs
 
 clamp-requires : tie.Need-clamp-requires
 clamp-requires c κs = search needs
 
+enum-told : tie.Need-enum-told
+enum-told c = search needs
+
+enum-told-2 : tie.Need-enum-told-2
+enum-told-2 c = search needs
+
+enum-told-3 : tie.Need-enum-told-3
+enum-told-3 c = search needs
+
 returns : tie.Need-returns
 returns c =
-    let t = c .before in
-    let s = t .before in
-    let n = s .args .n in
+    let n = c .before .before .v in
+    let d = c .before .before .before .before in
     back32 (c .clamp .result) (c .clamp .ok)
-    ∙ (simp (toZ-pos w32 {n = n} (t .if1 .taken), toZ-ofZ (s .fits .lo), toZ-ofZ (s .fits .hi)) at (c .clamp .ensures))
-    ∙ simp (lt-ltb n 2147483648 (t .if1 .taken))
+    ∙ (simp (back32 (n .given .0 .0) (c .before .known-told .given .0 .1), toZ-ofZ (d .before .fits .lo), toZ-ofZ (d .before .fits .hi)) at (c .clamp .ensures))
+    ∙ by d _ (n .given .1)
 
 returns-2 : tie.Need-returns-2
-returns-2 c = rw (toZ-ofZ (c .before .fits .default)) (simp (le-ltb (c .before .args .n) 2147483648 (c .if1 .left)))
+returns-2 c = let d = c .before .before in toZ-ofZ (d .before .fits .default) ∙ by d _ (c .enum-told .given .1)
+
+returns-3 : tie.Need-returns-3
+returns-3 c = let d = c .before .before in toZ-ofZ (d .before .fits .default) ∙ by d _ (c .enum-told2 .given .1)
+
+returns-4 : tie.Need-returns-4
+returns-4 c = let d = c .before .before in toZ-ofZ (d .before .fits .default) ∙ by d _ (c .enum-told3 .given .1)
 
 pub clamped-or-spec : {M : Type 1} → statement M
-clamped-or-spec = tie.close (tie.spec cast-clamp clamp-requires returns returns-2)
+clamped-or-spec =
+    tie.close
+    (tie.spec told-requires enum-known-v clamp-requires enum-told enum-told-2 enum-told-3 returns returns-2 returns-3 returns-4)

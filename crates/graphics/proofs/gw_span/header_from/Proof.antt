@@ -5,7 +5,7 @@ use borrow.Author.Needs.{needs}
 use Rattle.text.proofs.DropSteps.{rest}
 use Rattle.numbers.proofs.IntLaws.{back32}
 use Rattle.graphics.specs.Block.{FieldLen}
-use Rattle.graphics.proofs.BlockLaws.{read-empty, read-number, read-other, read-end}
+use Rattle.graphics.proofs.BlockLaws.{read-comma, read-other, read-end}
 use Rattle.graphics.proofs.gw_span.header_from.Statement.{statement}
 use Rattle.graphics.proofs.gw_span.header_from.Tie as tie
 
@@ -28,42 +28,41 @@ header-field-len-requires c κs = search needs
 add-end : tie.Need-add-end
 add-end c = search needs
 
+sub-first-number : tie.Need-sub-first-number
+sub-first-number c = search needs
+
+part-first-number-start : tie.Need-part-first-number-start
+part-first-number-start c = search needs
+
+part-first-number-end : tie.Need-part-first-number-end
+part-first-number-end c = search needs
+
+first-number-requires : tie.Need-first-number-requires
+first-number-requires c κs = search needs
+
 shared-slice-read-if2 : tie.Need-shared-slice-read-if2
 shared-slice-read-if2 c = search needs
-
-add-t15 : tie.Need-add-t15
-add-t15 c = search needs
-
-returns : tie.Need-returns
-returns c = read-empty _ _ _ (len (c .before .before .before .before)) (c .before .before .before .if1 .taken) (c .before .if2 .taken) (c .if3 .taken)
-
-sub-number-from : tie.Need-sub-number-from
-sub-number-from c = search needs
-
-part-number-from-start : tie.Need-part-number-from-start
-part-number-from-start c = search needs
-
-part-number-from-end : tie.Need-part-number-from-end
-part-number-from-end c = search needs
-
-number-from-requires : tie.Need-number-from-requires
-number-from-requires c κs = search needs
 
 add-t17 : tie.Need-add-t17
 add-t17 c = search needs
 
+returns : tie.Need-returns
+returns c =
+    let v = c .before .before .before in
+    rw (back32 (v .first-number .result) (v .first-number .ok))
+    (read-comma _ _ _ (len (v .before .before)) (v .first-number .ensures) (c .before .before .if1 .taken) (c .if2 .taken))
+
 returns-2 : tie.Need-returns-2
 returns-2 c =
-    let n = c .before in
-    let b = n .before .before .before in
-    rw (back32 (n .number-from .result .value) (c .struct-told .given .0 .1))
-    (read-number _ _ _ (len (b .before .before .before)) (b .before .before .if1 .taken) (b .if2 .taken) (n .number-from .ensures))
+    let v = c .before .before .before in
+    rw (back32 (v .first-number .result) (v .first-number .ok))
+    (read-other _ _ _ (len (v .before .before)) (v .first-number .ensures) (c .before .before .if1 .taken) (c .if2 .left))
 
 returns-3 : tie.Need-returns-3
-returns-3 c = read-other _ _ _ (len (c .before .before .before)) (c .before .before .if1 .taken) (c .if2 .left)
-
-returns-4 : tie.Need-returns-4
-returns-4 c = read-end _ _ _ (len (c .before)) (c .before .before .before .before .pre) (c .if1 .left)
+returns-3 c =
+    let v = c .before in
+    rw (back32 (v .first-number .result) (v .first-number .ok))
+    (read-end _ _ _ (len (v .before .before)) (v .first-number .ensures) (v .before .before .before .before .before .pre) (c .if1 .left))
 
 pub header-from-spec : {M : Type 1} → statement M
 header-from-spec =
@@ -74,14 +73,12 @@ header-from-spec =
     part-header-field-len-end
     header-field-len-requires
     add-end
+    sub-first-number
+    part-first-number-start
+    part-first-number-end
+    first-number-requires
     shared-slice-read-if2
-    add-t15
-    returns
-    sub-number-from
-    part-number-from-start
-    part-number-from-end
-    number-from-requires
     add-t17
+    returns
     returns-2
-    returns-3
-    returns-4)
+    returns-3)

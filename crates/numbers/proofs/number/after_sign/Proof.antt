@@ -3,7 +3,7 @@
 use mathlib.Core.Path.{sym, ap, _∙_}
 use borrow.Author.Needs.{needs}
 use Rattle.numbers.specs.Number.{signed, digitsOf}
-use Rattle.numbers.proofs.NumberLaws.{upto, bad}
+use Rattle.numbers.proofs.NumberLaws.{upto, over, bad}
 use Rattle.numbers.proofs.number.after_sign.Statement.{statement}
 use Rattle.numbers.proofs.number.after_sign.Tie as tie
 
@@ -19,6 +19,9 @@ with-sign-requires c κs = upto (digitsOf (c .before .before .before .before .be
 enum-told : tie.Need-enum-told
 enum-told c = search needs
 
+enum-told-2 : tie.Need-enum-told-2
+enum-told-2 c = search needs
+
 returns : tie.Need-returns
 returns c =
     let n = c .before .before in
@@ -28,9 +31,14 @@ returns c =
 returns-2 : tie.Need-returns-2
 returns-2 c =
     let n = c .before .before in
-    sym (bad (digitsOf (n .before .before .args .s .now)) (n .before .before .args .neg) (sym (c .enum-told .given .1) ∙ n .digits .ensures))
+    sym (over (digitsOf (n .before .before .args .s .now)) (n .before .before .args .neg) (sym (c .enum-told .given .1) ∙ n .digits .ensures))
+
+returns-3 : tie.Need-returns-3
+returns-3 c =
+    let n = c .before .before in
+    sym (bad (digitsOf (n .before .before .args .s .now)) (n .before .before .args .neg) (sym (c .enum-told2 .given .1) ∙ n .digits .ensures))
 
 pub after-sign-spec : {M : Type 1} → statement M
 after-sign-spec =
     tie.close
-    (tie.spec digits-requires enum-known-v with-sign-requires enum-told returns returns-2)
+    (tie.spec digits-requires enum-known-v with-sign-requires enum-told enum-told-2 returns returns-2 returns-3)
