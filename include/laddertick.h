@@ -34,7 +34,7 @@ enum {
     LADDERTICK_TEXT_FIELDS = 1,       /* A with fewer than 7 fields before its data; empty fields right before the data are not counted */
     LADDERTICK_BARCODE_FIELDS = 2,    /* B with fewer than 8, counted alike */
     LADDERTICK_BARCODE_2D_FIELDS = 3, /* b with fewer than 3, counted alike */
-    LADDERTICK_LINE_FIELDS = 4,       /* LO or LW with fewer than 4 fields */
+    LADDERTICK_LINE_FIELDS = 4,       /* LO, LW or LE with fewer than 4 fields */
     LADDERTICK_DIAGONAL_FIELDS = 5,   /* LS with fewer than 5 */
     LADDERTICK_BOX_FIELDS = 6,        /* X with fewer than 5 */
     LADDERTICK_BARCODE_TYPE = 7,      /* B with a type that is not listed */
@@ -91,7 +91,7 @@ typedef struct laddertick_element {
     uint8_t kind;      /* 1 to 16; 0 where an answer has no element */
     uint8_t rotation;  /* text, 1D bar codes, PDF417: quarter turns as the file says them, 0 to 3 */
     uint8_t reverse;   /* text: 1 white on black */
-    uint8_t colour;    /* box: 0 black, 1 white */
+    uint8_t colour;    /* box: 0 black, 1 white, 2 exclusive-OR */
     uint8_t direction; /* diagonal: 1 from top left to bottom right, or a point; 0 from bottom left to top right, or horizontal, or vertical */
     uint8_t line;      /* 1D bar codes: 1 with the line of text below */
     uint8_t check;     /* 2 of 5, Code 39: 1 with a check digit */

@@ -14,7 +14,7 @@
     X(1, "a text (A) needs 7 fields before its data, the last not empty: x, y, rotation, font, two multipliers, reverse") \
     X(2, "a bar code (B) needs 8 fields before its data, the last not empty: x, y, rotation, type, narrow, wide, height, line") \
     X(3, "a 2D bar code (b) needs 3 fields before its data, the last not empty: x, y, type") \
-    X(4, "a line (LO, LW) needs 4 fields: x, y, width, height") \
+    X(4, "a line (LO, LW, LE) needs 4 fields: x, y, width, height") \
     X(5, "a diagonal (LS) needs 5 fields: x, y, thickness, x, y") \
     X(6, "a box (X) needs 5 fields: x, y, thickness, x, y") \
     X(7, "no such type of bar code (B)") \

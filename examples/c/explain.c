@@ -16,6 +16,8 @@ static const char *const KINDS[] = {
 
 static const char *const MODES[] = {"", "UCC", "automatic", "EAN"};
 
+static const char *const COLOURS[] = {"", ", white", ", exclusive-OR"};
+
 /* The bars of a 1D bar code. */
 static void put_bars(laddertick_element e)
 {
@@ -39,7 +41,7 @@ static void explain(const char *name, bytes input, laddertick_element e, size_t 
         printf(", height %.17g, width %.17g%s", e.text_height, e.text_width, e.reverse ? ", white on black" : "");
         break;
     case LADDERTICK_BOX:
-        printf(", %" PRId32 " by %" PRId32 ", thickness %" PRId32 "%s", e.width, e.height, e.thickness, e.colour ? ", white" : "");
+        printf(", %" PRId32 " by %" PRId32 ", thickness %" PRId32 "%s", e.width, e.height, e.thickness, COLOURS[e.colour]);
         break;
     case LADDERTICK_DIAGONAL:
         printf(", %" PRId32 " by %" PRId32 ", thickness %" PRId32 "%s", e.width, e.height, e.thickness,

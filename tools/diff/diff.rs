@@ -9,7 +9,8 @@ mod steps;
 
 use compare::{compare, Lent};
 use inputs::Maker;
-use oracle::panics::{self, Cause};
+use oracle::masked;
+use oracle::panics::Cause;
 use oracle::{Answer, LIMIT};
 use std::sync::atomic::{AtomicUsize, Ordering::Relaxed};
 use std::time::{Duration, Instant};
@@ -37,6 +38,7 @@ fn main() {
     let count = |counter: &AtomicUsize| counter.load(Relaxed);
     let by_number: Vec<_> = (1..=14).map(|n| format!("{n}: {}", count(&run.refused[n]))).collect();
     eprintln!("refused by number: {}", by_number.join(", "));
+    eprintln!("with LE lines: {}", count(&run.exclusive_or));
     let (cases, differences, accepted) = (count(&run.cases), count(&run.differences), count(&run.accepted));
     let refused: usize = run.refused.iter().map(count).sum();
     let [range, kind, maxicode] = [0, 1, 2].map(|i| count(&run.panics[i]));
@@ -56,6 +58,8 @@ struct Run {
     cases: AtomicUsize,
     differences: AtomicUsize,
     accepted: AtomicUsize,
+    /// With `LE` lines, which the Rust was asked about under other letters.
+    exclusive_or: AtomicUsize,
     /// By 01's number.
     refused: [AtomicUsize; 15],
     /// By cause: 13; 7, 8 or 9; MaxiCode.
@@ -82,7 +86,10 @@ impl Run {
     }
 
     fn case(&self, lent: &mut Lent, input: &[u8]) {
-        let (expected, cause) = panics::answer(input);
+        let (expected, cause) = masked::answer(input);
+        if !masked::exclusive_or(input).is_empty() {
+            self.exclusive_or.fetch_add(1, Relaxed);
+        }
         match expected {
             Answer::Refused(number, _) => self.refused[number as usize].fetch_add(1, Relaxed),
             _ => self.accepted.fetch_add(1, Relaxed),
@@ -95,7 +102,7 @@ impl Run {
         if let Err(wrong) = compare(lent, input, &expected) {
             if self.differences.fetch_add(1, Relaxed) < SHOWN {
                 let (input, wrong) = cut_down(lent, input, wrong);
-                let expected = panics::answer(&input).0.lines();
+                let expected = masked::answer(&input).0.lines();
                 let text = format!("input: \"{}\"\nexpected:\n{expected}ours, {wrong}\n", input.escape_ascii());
                 println!("{}", text.get(..LONGEST_REPORT).unwrap_or(&text));
             }
@@ -112,7 +119,7 @@ fn cut_down(lent: &mut Lent, input: &[u8], wrong: String) -> (Vec<u8>, String) {
         let mut at = 0;
         while at + part <= input.len() && start.elapsed() < PATIENCE {
             let shorter = [&input[..at], &input[at + part..]].concat();
-            match compare(lent, &shorter, &panics::answer(&shorter).0) {
+            match compare(lent, &shorter, &masked::answer(&shorter).0) {
                 Err(now) => (input, wrong) = (shorter, now),
                 Ok(()) => at += part,
             }

@@ -63,6 +63,8 @@ pub const SETTINGS: &[Setting] = &[
     bytes(BOX, b"RN2 ,\n", BOX),
     bytes(BOX, b"P1,\r\nN", BOX),
     bytes(b"", b"LOSW,\n", b""),
+    bytes(b"", b"LEO,\n ", b""),
+    tokens(BOX, [b"LE", b"GW1,2,2,1,", b"\n", b"\xc2\xa0", b",", b"\""], b",3,4\n"),
     bytes(b"", b"XLS,1\n", b""),
     bytes(b"LS", b"1,-2\n ", b",1"),
     bytes(b"", b"ABb\",\n", b""),

@@ -24,6 +24,7 @@ static const one CASES[] = {
     {"A1,2,3,4,5,6,R,\"seven77\"\n",
      ELEMENT(1, 25, .rotation = 3, .reverse = 1, .x = 101, .y = 202, .text_height = 144, .text_width = 70, .data_start = 29 + 16, .data_len = 7)},
     {"LW1,2,4,3\n", ELEMENT(2, 10, .colour = 1, .x = 101, .y = 202, .width = 4, .height = 3, .thickness = 3)},
+    {"LE1,2,4,3\n", ELEMENT(2, 10, .colour = 2, .x = 101, .y = 202, .width = 4, .height = 3, .thickness = 3)},
     {"X1,2,7,31,42\n", ELEMENT(2, 13, .x = 101, .y = 202, .width = 30, .height = 40, .thickness = 7)},
     {"LS1,2,7,31,42\n", ELEMENT(3, 14, .direction = 1, .x = 101, .y = 202, .width = 30, .height = 40, .thickness = 7)},
     {"GW5,6,3,2,abcdef\n", ELEMENT(4, 16, .x = 105, .y = 206, .row_bytes = 3, .data_start = 29 + 10, .data_len = 6)},

@@ -30,7 +30,7 @@ impl Element<'_> {
 pub enum Kind {
     Text { rotation: u8, reverse: bool, height: f64, width: f64 },
     /// A box, or a line that is one.
-    Box { width: i32, height: i32, thickness: i32, white: bool },
+    Box { width: i32, height: i32, thickness: i32, colour: Colour },
     /// It falls from top left to bottom right (a point does too), or rises from bottom left to top right, or is horizontal or vertical.
     Diagonal { width: i32, height: i32, thickness: i32, falls: bool },
     /// 0 bytes a row where there is no data.
@@ -49,6 +49,14 @@ pub enum Kind {
     DataMatrix { module: i32, columns: i32, rows: i32 },
     Qr { magnification: i32, level: QrLevel },
     Maxicode { mode: i32 },
+}
+
+/// How a box is drawn: black (`LO`, `X`), white (`LW`) or exclusive-OR (`LE`).
+#[derive(Clone, Copy, Debug, PartialEq, Eq)]
+pub enum Colour {
+    Black,
+    White,
+    ExclusiveOr,
 }
 
 /// What all bar codes with bars have.
@@ -85,7 +93,7 @@ pub(crate) fn element(input: &[u8], e: raw::Element) -> Element<'_> {
     let (check, ratio) = (e.check != 0, e.ratio);
     let kind = match e.kind {
         1 => Kind::Text { rotation: e.rotation, reverse: e.reverse != 0, height: e.text_height, width: e.text_width },
-        2 => Kind::Box { width: e.width, height: e.height, thickness: e.thickness, white: e.colour != 0 },
+        2 => Kind::Box { width: e.width, height: e.height, thickness: e.thickness, colour: colour(e.colour) },
         3 => Kind::Diagonal { width: e.width, height: e.height, thickness: e.thickness, falls: e.direction != 0 },
         4 => Kind::Graphic { row_bytes: e.row_bytes },
         5 => Kind::Code128 { bars, mode: bar_mode(e.mode) },
@@ -111,6 +119,14 @@ pub(crate) fn element(input: &[u8], e: raw::Element) -> Element<'_> {
         _ => unreachable!("the contract of laddertick_step names no other kind"),
     };
     Element { x: e.x, y: e.y, kind, data: &input[e.data_start..][..e.data_len] }
+}
+
+fn colour(flag: u8) -> Colour {
+    match flag {
+        0 => Colour::Black,
+        1 => Colour::White,
+        _ => Colour::ExclusiveOr,
+    }
 }
 
 fn bar_mode(mode: i32) -> BarMode {

@@ -1,6 +1,6 @@
 //! Answers that the scope document gives, through the safe crate.
 
-use laddertick::{labels, list, normalise, steps, BarMode, Bars, Element, Kind, Label, QrLevel, Refused, Step, LONGEST};
+use laddertick::{labels, list, normalise, steps, BarMode, Bars, Colour, Element, Kind, Label, QrLevel, Refused, Step, LONGEST};
 
 /// The one element of a file with one label.
 fn one(file: &[u8]) -> Element<'_> {
@@ -23,16 +23,17 @@ fn the_worked_example() {
     assert_eq!(list(file).unwrap(), "0000000001\n020000000f0000001a0000001e000000040000000400\n");
     let line = one(file);
     assert_eq!((line.x, line.y, line.data, line.text()), (15, 26, &b""[..], None));
-    assert_eq!(line.kind, Kind::Box { width: 30, height: 4, thickness: 4, white: false });
+    assert_eq!(line.kind, Kind::Box { width: 30, height: 4, thickness: 4, colour: Colour::Black });
 }
 
 #[test]
 fn every_kind() {
     let bars = |rotation, narrow, height, line| Bars { rotation, narrow, height, line };
-    let cases: [(&[u8], Kind, Option<&str>); 17] = [
+    let cases: [(&[u8], Kind, Option<&str>); 18] = [
         (b"A1,2,1,1,2,1,R,\"x\"", Kind::Text { rotation: 1, reverse: true, height: 12.0, width: 16.0 }, Some("x")),
-        (b"LW1,2,3,4", Kind::Box { width: 3, height: 4, thickness: 3, white: true }, None),
-        (b"X1,2,5,11,22", Kind::Box { width: 10, height: 20, thickness: 5, white: false }, None),
+        (b"LW1,2,3,4", Kind::Box { width: 3, height: 4, thickness: 3, colour: Colour::White }, None),
+        (b"LE1,2,3,4", Kind::Box { width: 3, height: 4, thickness: 3, colour: Colour::ExclusiveOr }, None),
+        (b"X1,2,5,11,22", Kind::Box { width: 10, height: 20, thickness: 5, colour: Colour::Black }, None),
         (b"LS1,12,1,6,2", Kind::Diagonal { width: 5, height: 10, thickness: 1, falls: false }, None),
         (b"GW1,2,1,2,\x00\x0a", Kind::Graphic { row_bytes: 1 }, None),
         (b"B1,2,0,1E,2,2,9,B,\"x\"", Kind::Code128 { bars: bars(0, 2, 9, true), mode: BarMode::Ean }, Some("x")),
@@ -86,12 +87,13 @@ fn steps_clear_and_print() {
 fn refusals_say_number_place_and_meaning() {
     assert_eq!(refused(b"N\nA1,2,0,1,1,1,,\"x\"\n"), (1, 2));
     assert_eq!(refused(b"N\n B0,0,0,1D,2,2,9,B,\"x\"\n"), (7, 2));
+    assert_eq!(refused(b"N\nLEFT JAR\n"), (4, 2));
     assert_eq!(refused(b"GW1,2,3"), (10, 0));
     assert_eq!(refused(b"GW0,0,-1,1,"), (11, 0));
     assert_eq!(refused(b"GW0,0,1,1,"), (12, 0));
     assert_eq!(refused(b"X2147483647,0,1,-1,0"), (13, 0));
     let words = labels(b"LO1\n").next().unwrap().unwrap_err().to_string();
-    assert_eq!(words, "refused (4): a line (LO, LW) needs 4 fields: x, y, width, height, at offset 0 (from 0)");
+    assert_eq!(words, "refused (4): a line (LO, LW, LE) needs 4 fields: x, y, width, height, at offset 0 (from 0)");
     assert_eq!(Refused { number: 14, place: 0 }.to_string(), "refused (14): more than 16,777,216 bytes");
     // What was printed before the refused line, then the refusal, then nothing.
     let mut walk = labels(b"LO1,1,1,1\nP\nLO2,2,2,2\nX\nP\n");

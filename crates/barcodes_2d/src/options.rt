@@ -25,8 +25,8 @@ pub enum Wanted {
     Level,
 }
 
-// What a value held, in one number, which the compiler keeps in a register: a value has no sign, so that all from 2^31 on
-// are free for the answers that are no value.
+// What a value held, in one number, which the compiler keeps in a register: a value has no sign, so that all from 2^31
+// on are free for the answers that are no value.
 pub const BEYOND: u32 = 2147483648;
 pub const NO_NUMBER: u32 = 2147483649;
 pub const EMPTY: u32 = 2147483650;

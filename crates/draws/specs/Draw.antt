@@ -1,4 +1,4 @@
--- `LO`, `LW`, `LS`, `X` (01, "Grammar").
+-- `LO`, `LW`, `LE`, `LS`, `X` (01, "Grammar").
 use Prim.Native.Nat.{ℕ}
 use mathlib.Core.Bool.{Bool, cond, _&&_, _||_}
 use mathlib.Core.List.{List}
@@ -24,7 +24,7 @@ use Rattle.parameters.specs.declared.reading.LineReading.the-variants as readin
 use Rattle.parameters.specs.FieldValues.{sizeOr, pointOf}
 use Rattle.parameters.specs.Position.{ifFits, placed, yields}
 
--- "`LO` (black) and `LW` (white): x, y, width, height"; width and height 1 by default
+-- "`LO` (black), `LW` (white) and `LE` (exclusive-OR): x, y, width, height"; width and height 1 by default
 unfoldable pub lineFields : List ℕ → LineFields
 lineFields s =
     record {

@@ -1,4 +1,4 @@
-// `LO` and `LW`: lines as boxes; `LS`: diagonals; `X`: boxes by two corners.
+// `LO`, `LW` and `LE`: lines as boxes; `LS`: diagonals; `X`: boxes by two corners.
 ghost use mathlib.Core.Path.{_≡_};
 ghost use Rattle.draws.specs.Draw.{lineElement, lineReading, drawnAt, diagonalOf, diagonalReading, boxOf, boxReading};
 ghost use Rattle.draws.specs.Axes.{cornersRead, extentOf, sameWay};
@@ -46,7 +46,7 @@ pub(crate) fn line_element(
     }))
 }
 
-// `LO`, `LW`: the parameters after the two letters, at a reference.
+// `LO`, `LW`, `LE`: the parameters after the two letters, at a reference.
 pub fn parse_epl_line(params: &[u8], line_color: LineColor, reference: LabelPosition) -> LineReading
     ensures { λ r. ⌜ r ≡ lineReading (now (params .entry)) «line_color» reference ⌝ }
 {

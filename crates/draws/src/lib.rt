@@ -1,2 +1,2 @@
-// `LO`, `LW`, `LS`, `X`: lines, diagonals and boxes.
+// `LO`, `LW`, `LE`, `LS`, `X`: lines, diagonals and boxes.
 pub mod draw;

@@ -19,7 +19,7 @@ use Rattle.elements.specs.declared.FieldOrientation.the-variants.{Normal, Rotat
 use Rattle.elements.specs.declared.LabelElement.{LabelElement}
 use Rattle.elements.specs.declared.LabelPosition.{LabelPosition}
 use Rattle.elements.specs.declared.LineColor.{LineColor}
-use Rattle.elements.specs.declared.LineColor.the-variants.{Black, White}
+use Rattle.elements.specs.declared.LineColor.the-variants.{Black, White, Xor}
 use Rattle.elements.specs.declared.plain.Bars as bars
 use Rattle.elements.specs.declared.plain.Data.{Data}
 use Rattle.elements.specs.declared.plain.Data.the-variants.{NoData, Payload, Decoded}
@@ -58,10 +58,11 @@ rotation Rotated90 = 1
 rotation Rotated180 = 2
 rotation Rotated270 = 3
 
--- "colour flag (0 black, 1 white)"
+-- "colour flag (0 black, 1 white, 2 exclusive-OR)"
 abbrev pub colour : LineColor → ℕ
 colour Black = 0
 colour White = 1
+colour Xor = 2
 
 -- "mode flag (1 Ucc, 2 Automatic, 3 Ean)"
 abbrev pub mode : BarcodeMode → ℕ
@@ -108,8 +109,8 @@ rowBytes b = number (b .«row_height») ++ number (b .security) ++ number (b .co
 unfoldable pub fieldBytes : Fields → List ℕ
 -- "01 text: rotation flag (0 to 3), reverse flag, height and width f64, data"
 fieldBytes (Text reverse f) = rotation (f .rotation) ∷ flag reverse ∷ float (f .height) ++ float (f .width)
--- "02 box: width, height, thickness, colour flag (0 black, 1 white); 03 diagonal: width, height, thickness, direction
--- flag"
+-- "02 box: width, height, thickness, colour flag (0 black, 1 white, 2 exclusive-OR);
+-- 03 diagonal: width, height, thickness, direction flag"
 fieldBytes (Box x c) = extentBytes x ++ (colour c ∷ [])
 fieldBytes (Diagonal x down) = extentBytes x ++ (flag down ∷ [])
 -- "04 graphic: row bytes, total, data (the payload, not decoded)"

@@ -37,6 +37,7 @@ pub fn colour(c: LineColor) -> u8
     match c {
         LineColor::Black => 0,
         LineColor::White => 1,
+        LineColor::Xor => 2,
     }
 }
 

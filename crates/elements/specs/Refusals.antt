@@ -9,7 +9,7 @@ use Rattle.elements.specs.declared.refusal.Refusal.the-variants.{OutOfRa
 use Rattle.elements.specs.declared.refusal.Refusal.the-variants.{StateOutside}
 
 abbrev pub numberOf : Refusal → ℕ
--- 1 `A`, 2 `B`, 3 `b`, 4 `LO`/`LW`, 5 `LS`, 6 `X` with too few fields
+-- 1 `A`, 2 `B`, 3 `b`, 4 `LO`/`LW`/`LE`, 5 `LS`, 6 `X` with too few fields
 numberOf TextFields = 1
 numberOf BarcodeFields = 2
 numberOf Barcode2dFields = 3

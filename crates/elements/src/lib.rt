@@ -28,10 +28,11 @@ pub enum FieldOrientation {
     Rotated270,
 }
 
-// The file is not among the Rust's that came with the scope; its use shows these two.
+// The file is not among the Rust's that came with the scope; its use shows the first two. Xor is ours, for `LE`.
 pub enum LineColor {
     Black,
     White,
+    Xor,
 }
 
 // The size of a text, as two floats, and its rotation.

@@ -25,7 +25,7 @@ use Rattle.flat.specs.Fields.{text-height, text-width, ratio}
 abbrev pub none : DataSpan
 none = record { start = 0; len = 0 }
 
--- "02 box: width, height, thickness, colour flag (0 black, 1 white);
+-- "02 box: width, height, thickness, colour flag (0 black, 1 white, 2 exclusive-OR);
 -- 03 diagonal: width, height, thickness, direction flag"
 abbrev pub drawn : ℕ → LabelPosition → ℤ → ℤ → ℤ → Field → ℕ → Element
 drawn kind p w h t f n = saying kind p none ((f, n) ∷ []) ((width, w) ∷ (height, h) ∷ (thickness, t) ∷ []) []

@@ -17,7 +17,7 @@ pub struct Element {
     pub rotation: u8,
     // Flag: a text is reversed.
     pub reverse: u8,
-    // Of a box: 0 black, 1 white.
+    // Of a box: 0 black, 1 white, 2 exclusive-OR.
     pub colour: u8,
     // Of a diagonal: 1 where x2 - x1 and y2 - y1 have one sign or are both zero.
     pub direction: u8,

@@ -82,7 +82,7 @@ shaped-yields k x y r zs f h =
     (λ q. simp (p, q) tt))
     (λ p. simp p tt)
 
--- ---- `LO`, `LW`, `LS`, `X`
+-- ---- `LO`, `LW`, `LE`, `LS`, `X`
 shaped-line : (s : List ℕ) (c : LineColor) (r : LabelPosition) → Shaped 0x02 (sums (number (field s 0)) (number (field s 1)) r) (lineReading s c r)
 unfolding lineReading lineElement lineFields pointOf
 shaped-line s c r =

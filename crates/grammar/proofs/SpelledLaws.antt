@@ -13,7 +13,7 @@ use Rattle.spelling.specs.declared.command.Command.{Command}
 use Rattle.spelling.specs.declared.command.Command.the-variants.{Clear, Reference, Data, Line, Diagonal, Box, Print, Other}
 use Rattle.spelling.specs.Command.{isReference, isPrint, commandOf}
 use Rattle.spelling.proofs.CommandLaws.{reads-other}
-use Rattle.grammar.specs.Spelled.{Digit, Digits, Letters, is-n, is-r, is-a, is-b, is-2d, is-lo, is-lw, is-ls, is-x, is-p, Spells, by-letters, else}
+use Rattle.grammar.specs.Spelled.{Digit, Digits, Letters, is-n, is-r, is-a, is-b, is-2d, is-lo, is-lw, is-le, is-ls, is-x, is-p, Spells, by-letters, else}
 
 pub digit-true : (b : ℕ) → Digit b → isDigit b ≡ true
 digit-true b h = within-true 48 57 b (h .0) (h .1)
@@ -38,6 +38,7 @@ letters-tell is-b = refl
 letters-tell is-2d = refl
 letters-tell is-lo = refl
 letters-tell is-lw = refl
+letters-tell is-le = refl
 letters-tell is-ls = refl
 letters-tell is-x = refl
 letters-tell (is-p {t} h) = simp (digits-true t h)
@@ -62,8 +63,9 @@ told-l [] = inr refl
 told-l (b ∷ t) =
     test (eqb b 79) (λ e. rw (eqb-true b 79 e) (inl is-lo)) λ o.
     test (eqb b 87) (λ e. rw (eqb-true b 87 e) (inl is-lw)) λ w.
+    test (eqb b 69) (λ e. rw (eqb-true b 69 e) (inl is-le)) λ x.
     test (eqb b 83) (λ e. rw (eqb-true b 83 e) (inl is-ls)) λ s.
-    inr (simp (o, w, s))
+    inr (simp (o, w, x, s))
 
 told-p : (t : List ℕ) → Told (80 ∷ t)
 unfolding commandOf isReference isPrint
@@ -102,6 +104,7 @@ letters-name is-b = refl
 letters-name is-2d = refl
 letters-name is-lo = refl
 letters-name is-lw = refl
+letters-name is-le = refl
 letters-name is-ls = refl
 letters-name is-x = refl
 letters-name (is-p h) = refl

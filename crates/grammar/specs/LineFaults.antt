@@ -41,7 +41,7 @@ matrixTypes = ascii "A" ∷ ascii "D" ∷ ascii "M" ∷ ascii "P" ∷ ascii "Q" 
 
 -- the faults of a line t whose blanks are off: "Within a line: count, type, data size"
 pub data LineFault (t : List ℕ) : ℕ → Type 0 where
-  -- "1 `A`, 2 `B`, 3 `b`, 4 `LO`/`LW`, 5 `LS`, 6 `X` with too few fields"
+  -- "1 `A`, 2 `B`, 3 `b`, 4 `LO`/`LW`/`LE`, 5 `LS`, 6 `X` with too few fields"
   few-a : SpellsRead Text t → count (paramsOf t) < 7 → LineFault t 1
   few-b : SpellsRead Barcode t → count (paramsOf t) < 8 → LineFault t 2
   few-2d : SpellsRead Barcode2d t → count (paramsOf t) < 3 → LineFault t 3

@@ -82,7 +82,7 @@ cornerSizes s r = between (number (field s 0)) (number (field s 1)) (number (fie
 abbrev pub sizesAs : Command → List ℕ → LabelPosition → List ℤ
 -- "Fewer than two quotes, or no data: nothing is read"
 sizesAs (Data c) t r = cond (isRead t) (dataSizes c (paramsOf t) r) []
--- "`LO` (black) and `LW` (white): x, y, .."
+-- "`LO` (black), `LW` (white) and `LE` (exclusive-OR): x, y, .."
 sizesAs (Line c) t r = sums (number (field (drop 2 t) 0)) (number (field (drop 2 t) 1)) r
 sizesAs Diagonal t r = cornerSizes (drop 2 t) r
 sizesAs Box t r = cornerSizes (drop 1 t) r

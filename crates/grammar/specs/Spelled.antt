@@ -2,7 +2,7 @@
 -- `commandOf` is proved to tell it.
 use mathlib.Core.List.{List, [], _∷_}
 use Prim.Native.Nat.{ℕ, _≤_}
-use Rattle.elements.specs.declared.LineColor.the-variants.{Black, White}
+use Rattle.elements.specs.declared.LineColor.the-variants.{Black, White, Xor}
 use Rattle.spelling.specs.declared.command.Command.{Command}
 use Rattle.spelling.specs.declared.command.Command.the-variants.{Clear, Reference, Data, Line, Diagonal, Box, Print}
 use Rattle.spelling.specs.declared.command.Command.the-variants.{Other}
@@ -26,15 +26,16 @@ pub data Letters : Command → List ℕ → Type 0 where
   is-a : {t : List ℕ} → Letters (Data Text) (spelt "A" t)
   is-b : {t : List ℕ} → Letters (Data Barcode) (spelt "B" t)
   is-2d : {t : List ℕ} → Letters (Data Barcode2d) (spelt "b" t)
-  -- "`LO`, `LW` ..; `LS`, `X`"; "`LO` (black) and `LW` (white)"
+  -- "`LO`, `LW`, `LE` ..; `LS`, `X`"; "`LO` (black), `LW` (white) and `LE` (exclusive-OR)"
   is-lo : {t : List ℕ} → Letters (Line Black) (spelt "LO" t)
   is-lw : {t : List ℕ} → Letters (Line White) (spelt "LW" t)
+  is-le : {t : List ℕ} → Letters (Line Xor) (spelt "LE" t)
   is-ls : {t : List ℕ} → Letters Diagonal (spelt "LS" t)
   is-x : {t : List ℕ} → Letters Box (spelt "X" t)
   -- "`P` or `P` with digits"
   is-p : {t : List ℕ} → Digits t → Letters Print (spelt "P" t)
 
--- "anything else, `LE` too, is passed over"
+-- "anything else is passed over"
 pub data Spells : Command → List ℕ → Type 0 where
   by-letters : {c : Command} {t : List ℕ} → Letters c t → Spells c t
   else : {t : List ℕ} → ((c : Command) → Letters c t → ⊥) → Spells Other t

@@ -50,7 +50,7 @@ abbrev pub counted : Command → List ℕ → Bool
 counted Clear t = true
 counted Reference t = true
 counted (Data c) t = dataCounted c (paramsOf t)
--- "`LO`, `LW` at least 4 fields; `LS`, `X` at least 5; no commas dropped"
+-- "`LO`, `LW`, `LE` at least 4 fields; `LS`, `X` at least 5; no commas dropped"
 counted (Line c) t = atLeast 4 (drop 2 t)
 counted Diagonal t = atLeast 5 (drop 2 t)
 counted Box t = atLeast 5 (drop 1 t)
@@ -96,7 +96,7 @@ wellFormedAs c t = asksNothing c t || (counted c t && typed c t && sized c t)
 unfoldable pub wellFormed : List ℕ → Bool
 wellFormed t = wellFormedAs (commandOf t) t
 
--- "1 `A`, 2 `B`, 3 `b`, 4 `LO`/`LW`, 5 `LS`, 6 `X` with too few fields"
+-- "1 `A`, 2 `B`, 3 `b`, 4 `LO`/`LW`/`LE`, 5 `LS`, 6 `X` with too few fields"
 abbrev pub countFault : Command → ℕ
 countFault (Data Text) = 1
 countFault (Data Barcode) = 2

@@ -58,6 +58,7 @@ use Rattle.frames.proofs.ListingRoomLaws.{length-listing-le, never-short}
 use Rattle.laddertick.specs.Contracts.{Library, Gives}
 use Rattle.laddertick.specs.Walked.{Walked, answered}
 use Rattle.laddertick.specs.Claims.{Divides, Normalising, Demand3, Claims, Theorem}
+use Rattle.laddertick.proofs.ColouredLaws.{exclusive-or}
 use Rattle.laddertick.proofs.WalkedLaws.{walked, one-walked, answered-is}
 use Rattle.laddertick.proofs.ContractsLaws.{step-hands-back, list-keeps, normalise-keeps, long-step, long-list, long-normalise, outside, ended-again, data-inside, denies}
 use Rattle.laddertick.proofs.ContractsLaws as calls
@@ -225,6 +226,7 @@ claims library = record {
     numbers = number-fields;
     ill-formed = ill-formed;
     well-formed = well-formed-range;
+    exclusive-or = exclusive-or;
     blanks = code-points-trim;
     widths = width-exact;
     starred = starred;

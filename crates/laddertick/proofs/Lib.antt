@@ -1,6 +1,8 @@
 -- the tables of computed cases
 pub mod Starred
 pub mod Distinct
+-- `LE` beside `LO`
+pub mod ColouredLaws
 -- data lies inside
 pub mod StepInsideLaws
 -- the walk by a function that meets the contract of `step`

@@ -59,6 +59,7 @@ use Rattle.frames.specs.Printing.{printedOf, shownOf}
 use Rattle.laddertick.specs.Contracts.{Library, Denies, Gives}
 use Rattle.laddertick.specs.Proved.{Proved}
 use Rattle.laddertick.specs.Walked.{Walked, answered, Outside}
+use Rattle.laddertick.specs.Coloured.{Coloured}
 use Rattle.laddertick.specs.Table.{Holds}
 use Rattle.laddertick.specs.Starred as starred
 use Rattle.laddertick.specs.Distinct as distinct
@@ -128,6 +129,9 @@ pub record Demand2 : Type 0 where
       → (n : Refusal) × (readLine t r ≡ reading.Refused n) × (numberOf n ≡ faultOf (trim t))
   pub well-formed : (t : List ℕ) (r : LabelPosition) (n : Refusal) → wellFormed (trim t) ≡ true
       → readLine t r ≡ reading.Refused n → n ≡ OutOfRange
+  -- "`LE` is read as `LO` is, with colour flag 2", whatever blanks stand around either
+  pub exclusive-or : (t u v : List ℕ) (r : LabelPosition) → trim t ≡ spelt "LO" v → trim u ≡ spelt "LE" v
+      → Coloured 2 (readLine t r) (readLine u r)
   -- "Unicode blanks (White_Space: ..)": trimming bytes takes the code points of 01's list off both ends of the decoded
   -- text
   pub blanks : (t : List ℕ) → codePoints (trim t) ≡ dropBoth isWhiteSpace (codePoints t)

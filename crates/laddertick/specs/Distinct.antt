@@ -10,7 +10,8 @@ use Prim.Native.String.{String}
 use Prim.Native.String as string
 use lib.Dec.{eqb}
 use Rattle.text.specs.Ascii.{ascii, spelt}
-use Rattle.laddertick.specs.Table.{Case, lists}
+use Rattle.whole.specs.Step.{refused}
+use Rattle.laddertick.specs.Table.{Case, lists, case, fresh}
 
 -- the characters of a text without its blanks, and then t
 abbrev packed : String → List ℕ → List ℕ
@@ -57,10 +58,11 @@ table =
     -- "0e QR: magnification, level letter (1 byte), data; 0f MaxiCode: mode, data"
     ∷ alone "b1,2,Q,s4,eH\"x\"" "0e 00000065 000000ca 00000004 48 00000001 78"
     ∷ alone "b1,2,M,m6\"x\"" "0f 00000065 000000ca 00000006 00000001 78"
-    -- "02 box: width, height, thickness, colour flag (0 black, 1 white); 03 diagonal: width, height, thickness,
-    -- direction flag"
+    -- "02 box: width, height, thickness, colour flag (0 black, 1 white, 2 exclusive-OR); 03 diagonal: width, height,
+    -- thickness, direction flag"
     ∷ alone "LO1,2,9,4" "02 00000065 000000ca 00000009 00000004 00000004 00"
     ∷ alone "LW1,2,9,4" "02 00000065 000000ca 00000009 00000004 00000004 01"
+    ∷ alone "LE1,2,9,4" "02 00000065 000000ca 00000009 00000004 00000004 02"
     ∷ alone "X14,25,3,1,2" "02 00000065 000000ca 0000000d 00000017 00000003 00"
     ∷ alone "LS1,2,3,14,25" "03 00000065 000000ca 0000000d 00000017 00000003 01"
     ∷ alone "LS14,25,3,1,2" "03 00000065 000000ca 0000000d 00000017 00000003 01"
@@ -82,6 +84,7 @@ table =
     ∷ alone "A,,,,,,N,\"x\"" "01 00000064 000000c8 00 00 4028000000000000 4028000000000000 00000001 78"
     ∷ alone "B,,,3,,,,N,\"x\"" "0a 00000064 000000c8 00 00000001 0000000a 00 00 4000000000000000 00000001 78"
     ∷ alone "LO,,," "02 00000064 000000c8 00000001 00000001 00000001 00"
+    ∷ alone "LE,,," "02 00000064 000000c8 00000001 00000001 00000001 02"
     ∷ alone "LS,,,," "03 00000064 000000c8 00000000 00000000 00000001 01"
     ∷ alone "X,,,," "02 00000064 000000c8 00000000 00000000 00000001 00"
     ∷ alone "b,,P\"x\"" "0b 00000064 000000c8 00 00000018 ffffffff 00000000 00000000 00 00000006 00000001 78"
@@ -121,4 +124,6 @@ table =
         "0000000001\n02 00000000 00000000 00000009 00000004 00000004 00\n"
     ∷ several "LO2147483647,-2147483648,12O,- 4\nP1\n"
         "0000000001\n02 7fffffff 80000000 00000001 00000001 00000001 00\n"
+    -- "4 `LO`/`LW`/`LE`, .. with too few fields"
+    ∷ case "LEFT JAR" (refused 4 0 fresh ∷ [])
     ∷ []

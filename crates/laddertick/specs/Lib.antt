@@ -3,6 +3,8 @@ pub mod Claims
 -- what the entry points promise; the walk of a function that meets it
 pub mod Contracts
 pub mod Walked
+-- lines that differ in their colour
+pub mod Coloured
 -- the code, and the contracts that it is proved to meet
 pub mod Proved
 -- tables of computed cases: 01, "Corners", the starred ones; each command and type with distinct fields

@@ -8,7 +8,7 @@ use lib.ListN.{getD, drop}
 use Rattle.text.specs.Ascii.{ascii, letter}
 use Rattle.text.specs.Class.{isDigit, allDigits}
 use Rattle.text.specs.Fields.{same}
-use Rattle.elements.specs.declared.LineColor.the-variants.{Black, White}
+use Rattle.elements.specs.declared.LineColor.the-variants.{Black, White, Xor}
 use Rattle.spelling.specs.declared.command.Command.{Command}
 use Rattle.spelling.specs.declared.command.Command.the-variants.{Clear, Reference, Data, Line, Diagonal, Box}
 use Rattle.spelling.specs.declared.command.Command.the-variants.{Print, Other}
@@ -40,6 +40,7 @@ commandOf t =
     (cond (first "b" t) (Data Barcode2d)
     (cond (first "L" t && second "O" t) (Line Black)
     (cond (first "L" t && second "W" t) (Line White)
+    (cond (first "L" t && second "E" t) (Line Xor)
     (cond (first "L" t && second "S" t) Diagonal
     (cond (first "X" t) Box
-    (cond (isPrint t) Print Other)))))))))
+    (cond (isPrint t) Print Other))))))))))

@@ -25,7 +25,7 @@ pub enum Command {
     Diagonal,
     Box,
     Print,
-    // Passed over, `LE` too.
+    // Passed over.
     Other,
 }
 
@@ -50,13 +50,14 @@ pub(crate) fn is_epl_print_command(t: &[u8]) -> bool
     (byte_at(t, 0) == b'P') & all_digits(tail(t))
 }
 
-// An `L` and the byte b: `LO`, `LW`, `LS`.
+// An `L` and the byte b: `LO`, `LW`, `LE`, `LS`.
 pub(crate) fn line_command(b: u8) -> Command
     ensures { λ r. ⌜ r ≡ commandOf (spelt "L" (b ∷ [])) ⌝ }
 {
     match b {
         b'O' => Command::Line(LineColor::Black),
         b'W' => Command::Line(LineColor::White),
+        b'E' => Command::Line(LineColor::Xor),
         b'S' => Command::Diagonal,
         _ => Command::Other,
     }

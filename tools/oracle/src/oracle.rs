@@ -7,6 +7,7 @@
 mod elements;
 mod epl;
 mod frames;
+pub mod masked;
 pub mod panics;
 mod standins;
 
@@ -27,7 +28,7 @@ pub enum Answer {
     Labels(String),
     /// 01's number, and the place of the refused unit's first byte, its blanks included.
     Refused(u8, usize),
-    /// A panic. 01's domain leaves these inputs out; `panics` says what 01 answers.
+    /// A panic. 01's domain leaves these inputs out; `panics` says what 01 answers there, and `masked` what it answers to any input.
     Panic,
 }
 

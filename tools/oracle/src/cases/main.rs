@@ -1,7 +1,7 @@
 //! Writes the cases of crates/replay: a fixed list of inputs, kind by kind, with the oracle's answers.
 //! - stdin: for each case its length, 4 bytes, most significant first, and its bytes.
 //! - stdout: for each case the lines of its answer (frames, or the one frame ff), then a line with a full stop.
-//! Where the debug build panics, 01's domain ends and the answer is 01's, as `panics.rs` finds it. An input that an earlier kind has already is left out.
+//! Where the debug build panics, 01's domain ends and the answer is 01's, as `panics.rs` finds it; `LE` lines are asked about as `masked.rs` says. An input that an earlier kind has already is left out.
 
 mod blanks;
 mod corners;
@@ -50,7 +50,7 @@ fn main() -> std::io::Result<()> {
             if !seen.insert(input.clone()) {
                 continue;
             }
-            let (answer, cause) = oracle::panics::answer(&input);
+            let (answer, cause) = oracle::masked::answer(&input);
             match answer {
                 _ if cause.is_some() => panics += 1,
                 Answer::Labels(_) => accepted += 1,

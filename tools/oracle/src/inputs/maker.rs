@@ -159,10 +159,10 @@ impl Maker {
         [&*data, header, b"96", rest].concat()
     }
 
-    /// `LO`, `LW`, `LS`, `X`.
+    /// `LO`, `LW`, `LE`, `LS`, `X`.
     pub fn draw(&mut self) -> Vec<u8> {
-        let letters: &[u8] = self.rng.pick(&[&b"LO"[..], b"LW", b"LS", b"X"]);
-        let count = if letters == b"LO" || letters == b"LW" { 4 } else { 5 };
+        let letters: &[u8] = self.rng.pick(&[&b"LO"[..], b"LW", b"LE", b"LS", b"X"]);
+        let count = if letters == b"LS" || letters == b"X" { 5 } else { 4 };
         let fields = (0..count).map(|_| self.number(800)).collect();
         [letters, &self.joined(fields)].concat()
     }

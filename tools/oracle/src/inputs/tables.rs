@@ -85,7 +85,7 @@ pub const WORDS: &[&[u8]] = &[
 /// Lines that are no command, or hardly one.
 #[rustfmt::skip]
 pub const PROSE: &[&[u8]] = &[
-    b"q609", b"Q406,24", b"S2", b"D8", b"ZT", b"ZB", b"JF", b"O", b"LE1,2,3,4", b"LE", b"L", b"I8,A,001", b"; remark", b"R", b"R-1", b"Rx",
+    b"q609", b"Q406,24", b"S2", b"D8", b"ZT", b"ZB", b"JF", b"O", b"LE1,2,3,4", b"LE", b"LEFT JAR", b"L", b"I8,A,001", b"; remark", b"R", b"R-1", b"Rx",
     b"r1,2", b"n", b"NN", b"N N", b"P1,1", b"P 1", b"P-1", b"p1", b"PA1", b"FK\"X\"", b"US", b"EI", b"\xef\xbb\xbfN", b"A", b"B", b"b",
     b"A\"", b"B\"\"", b"Another box of jars", b"below the casing shoe", b"Box 12 is \"wet\"", b"GQ1", b"G W1,2,3,4,", b"gw1,2,3,4,",
 ];
@@ -95,7 +95,7 @@ pub const PROSE: &[&[u8]] = &[
 pub const TOKENS: &[&[u8]] = &[
     b"GW", b"GW,,,,", b"GW0,0,1,1,", b"GW1,2,2,2,", b"\n", b"\n", b"\n", b"\r\n", b",", b",", b",", b"\"", b"\"", b"N", b"N\n", b"P\n", b"P1",
     b"R", b"R1", b"R5,6\n", b"A", b"B", b"b", b"LO", b"LW", b"LS", b"LE", b"X", b"0", b"1", b"2", b"7", b"-", b"+", b" ", b"\t", b"\x0b",
-    b"\xc2\xa0", b"\xe2\x80\x83", b"\xff", b"\xc3\xa9", b"\xe2", b"LO1,2,3,4\n", b"A1,2,0,1,1,1,N,\"x\"\n", b"B1,2,0,1,2,2,9,B,\"x\"\n",
+    b"\xc2\xa0", b"\xe2\x80\x83", b"\xff", b"\xc3\xa9", b"\xe2", b"LO1,2,3,4\n", b"LE1,2,3,4\n", b"A1,2,0,1,1,1,N,\"x\"\n", b"B1,2,0,1,2,2,9,B,\"x\"\n",
     b"b1,2,Q,\"x\"\n", b"b,,M\"", b"LS1,2,3,4,5\n", b"X1,2,3,4,5\n", b"2147483647", b"-2147483648", b"E30", b"UA0", b"1A", b"M", b"Q", b"P",
     b"m2", b"s4", b"[)>\x1e01\x1d", b"123456", b"\x00",
 ];

@@ -19,9 +19,13 @@ returns-3 c = rw (c .match .keys3)
 
 returns-4 : tie.Need-returns-4
 unfolding commandOf isReference isPrint
-returns-4 c =
+returns-4 c = rw (c .match .keys4)
+
+returns-5 : tie.Need-returns-5
+unfolding commandOf isReference isPrint
+returns-5 c =
     let b = c .before .args .b in
-    simp (ne-eqb b 79 (c .match .rest .0 .0 .1), ne-eqb b 87 (c .match .rest .0 .1), ne-eqb b 83 (c .match .rest .1))
+    simp (ne-eqb b 79 (c .match .rest .0 .0 .0 .1), ne-eqb b 87 (c .match .rest .0 .0 .1), ne-eqb b 69 (c .match .rest .0 .1), ne-eqb b 83 (c .match .rest .1))
 
 pub line-command-spec : {M : Type 1} → statement M
-line-command-spec = tie.close (tie.spec returns returns-2 returns-3 returns-4)
+line-command-spec = tie.close (tie.spec returns returns-2 returns-3 returns-4 returns-5)

@@ -1,0 +1,65 @@
+//! 01's answer to any input. `LE` is none of the Rust's commands, so it is asked about copies in which each such line has another letter:
+//! "`LE` is read as `LO` is". The copies have the input's length, and all places stay.
+//!
+//! The colour is held to the definition: with `LO` for `LE` a box is black and with `LW` white, so where the frames of these two copies differ,
+//! they differ in the colour flag of an `LE` line, which is 2.
+
+use crate::panics::{self, Cause};
+use crate::{unit_end, Answer};
+
+/// What 01 answers, and why the Rust panics where it does. Never `Answer::Panic`.
+pub fn answer(input: &[u8]) -> (Answer, Option<Cause>) {
+    let places = exclusive_or(input);
+    if places.is_empty() {
+        return panics::answer(input);
+    }
+    let (black, cause) = panics::answer(&with_letter(input, &places, b'O'));
+    let (white, _) = panics::answer(&with_letter(input, &places, b'W'));
+    match (black, white) {
+        (Answer::Labels(black), Answer::Labels(white)) => (Answer::Labels(coloured(&black, &white)), cause),
+        (black, white) => {
+            assert_eq!(black, white, "a colour changes what is refused");
+            (black, cause)
+        }
+    }
+}
+
+/// Where the `E` of each `LE` line stands. A line may have Unicode blanks before its letters; a graphic's payload is no line, and data stands behind other letters.
+pub fn exclusive_or(input: &[u8]) -> Vec<usize> {
+    // Short of a long look at inputs that cannot have one.
+    if !input.windows(2).any(|pair| pair == b"LE") {
+        return Vec::new();
+    }
+    let (mut places, mut place) = (Vec::new(), 0);
+    while place < input.len() {
+        let end = unit_end(input, place);
+        let unit = &input[place..end];
+        if String::from_utf8_lossy(unit).trim().starts_with("LE") {
+            // No blank has the byte `L` in it.
+            let letter = unit.iter().position(|&b| b == b'L').expect("the line begins with it");
+            places.push(place + letter + 1);
+        }
+        place = end;
+    }
+    places
+}
+
+fn with_letter(input: &[u8], places: &[usize], letter: u8) -> Vec<u8> {
+    let mut copy = input.to_vec();
+    places.iter().for_each(|&place| copy[place] = letter);
+    copy
+}
+
+/// The frames of both listings where they agree; a box that is black in one and white in the other has colour 2.
+fn coloured(black: &str, white: &str) -> String {
+    assert_eq!(black.len(), white.len());
+    let lines = black.lines().zip(white.lines()).map(|(black, white)| {
+        if black == white {
+            return format!("{black}\n");
+        }
+        let (sizes, flag) = black.split_at(black.len() - 2);
+        assert!(black.starts_with("02") && flag == "00" && white == format!("{sizes}01"), "a colour changes {black}");
+        format!("{sizes}02\n")
+    });
+    lines.collect()
+}
