@@ -44,12 +44,14 @@ enum {
     LADDERTICK_GRAPHIC_FIELDS = 10,    /* GW with fewer than four commas on its line */
     LADDERTICK_GRAPHIC_NEGATIVE = 11,  /* GW with a negative width or number of lines */
     LADDERTICK_GRAPHIC_TRUNCATED = 12, /* GW whose data passes the end of the input */
-    /* The author again: a position or a size outside 32 bits. */
+    /* The author again: a position outside 32 bits, the reference point added. */
     LADDERTICK_OUT_OF_RANGE = 13,
     /* The host: */
     LADDERTICK_INPUT_TOO_LONG = 14,   /* more than LADDERTICK_LONGEST bytes; the place is 0 */
     LADDERTICK_OUTPUT_TOO_SHORT = 15, /* the place is the length that is needed */
-    LADDERTICK_STATE_OUTSIDE = 16     /* a walk whose place is past the end, or whose pending count is above its place; the place is the walk's */
+    LADDERTICK_STATE_OUTSIDE = 16,    /* a walk whose place is past the end, or whose pending count is above its place; the place is the walk's */
+    /* The author again, at the first byte of the line: a difference of two corners, its absolute value or a font product outside 32 bits; directly after 13. */
+    LADDERTICK_SIZE_OUT_OF_RANGE = 19
 };
 
 /* ---- a file, a step at a time ---- */

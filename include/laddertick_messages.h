@@ -23,10 +23,11 @@
     X(10, "a graphic (GW) needs four fields, each closed by a comma: x, y, bytes a row, rows") \
     X(11, "a graphic (GW) of negative size") \
     X(12, "the graphic's data passes the end of the file") \
-    X(13, "a position or size outside 32 bits") \
+    X(13, "a position outside 32 bits, the reference point added") \
     X(14, "more than 16,777,216 bytes") \
     X(15, "the buffer is too short") \
-    X(16, "a walk whose place is past the end, or whose pending count is above its place")
+    X(16, "a walk whose place is past the end, or whose pending count is above its place") \
+    X(19, "a size outside 32 bits: of a diagonal, a box or a text")
 /* clang-format on */
 
 #endif

@@ -36,16 +36,16 @@ fn main() {
         }
     });
     let count = |counter: &AtomicUsize| counter.load(Relaxed);
-    let by_number: Vec<_> = (1..=14).map(|n| format!("{n}: {}", count(&run.refused[n]))).collect();
+    let by_number: Vec<_> = (1..=14).chain([19]).map(|n| format!("{n}: {}", count(&run.refused[n]))).collect();
     eprintln!("refused by number: {}", by_number.join(", "));
     eprintln!("with LE lines: {}", count(&run.exclusive_or));
     let (cases, differences, accepted) = (count(&run.cases), count(&run.differences), count(&run.accepted));
     let refused: usize = run.refused.iter().map(count).sum();
-    let [range, kind, maxicode] = [0, 1, 2].map(|i| count(&run.panics[i]));
-    let panics = range + kind + maxicode;
+    let [position, size, kind, maxicode] = [0, 1, 2, 3].map(|i| count(&run.panics[i]));
+    let panics = position + size + kind + maxicode;
     println!(
         "{cases} cases, {differences} differences, \
-         {panics} panics of the Rust (13: {range}, 7/8/9: {kind}, MaxiCode: {maxicode}), accepted {accepted}, refused {refused}"
+         {panics} panics of the Rust (13: {position}, 19: {size}, 7/8/9: {kind}, MaxiCode: {maxicode}), accepted {accepted}, refused {refused}"
     );
     std::process::exit((differences > 0) as i32);
 }
@@ -61,9 +61,9 @@ struct Run {
     /// With `LE` lines, which the Rust was asked about under other letters.
     exclusive_or: AtomicUsize,
     /// By 01's number.
-    refused: [AtomicUsize; 15],
-    /// By cause: 13; 7, 8 or 9; MaxiCode.
-    panics: [AtomicUsize; 3],
+    refused: [AtomicUsize; 20],
+    /// By cause: 13; 19; 7, 8 or 9; MaxiCode.
+    panics: [AtomicUsize; 4],
 }
 
 impl Run {
@@ -95,7 +95,7 @@ impl Run {
             _ => self.accepted.fetch_add(1, Relaxed),
         };
         if let Some(cause) = cause {
-            let kind = [Cause::Range, Cause::TypeOrSize, Cause::Maxicode].iter().position(|&c| c == cause);
+            let kind = [Cause::Position, Cause::Size, Cause::TypeOrSize, Cause::Maxicode].iter().position(|&c| c == cause);
             self.panics[kind.unwrap()].fetch_add(1, Relaxed);
         }
         self.cases.fetch_add(1, Relaxed);

@@ -6,7 +6,7 @@ const MESSAGES: &str = include_str!("../../../include/laddertick_messages.h");
 /// A refusal: its number and its place.
 #[derive(Clone, Copy, Debug, PartialEq, Eq)]
 pub struct Refused {
-    /// 1 to 9 and 13: the author of the label; 10 to 12: the sender of a graphic; 14 to 16: the caller.
+    /// 1 to 9, 13 and 19: the author of the label; 10 to 12: the sender of a graphic; 14 to 16: the caller.
     pub number: u8,
     /// The first byte of the refused line, its blanks included, counted from 0; for 15 the length that is needed.
     pub place: usize,
@@ -15,8 +15,10 @@ pub struct Refused {
 impl Refused {
     pub(crate) const OUTPUT_TOO_SHORT: u8 = 15;
 
-    /// The last number whose place is that of a line.
-    const OUT_OF_RANGE: u8 = 13;
+    /// The place is that of a line.
+    fn is_of_a_line(&self) -> bool {
+        matches!(self.number, 1..=13 | 19)
+    }
 
     /// What the number means, in the words that `./laddertick` prints.
     pub fn meaning(&self) -> &'static str {
@@ -30,7 +32,7 @@ impl Refused {
 impl fmt::Display for Refused {
     fn fmt(&self, f: &mut fmt::Formatter<'_>) -> fmt::Result {
         write!(f, "refused ({}): {}", self.number, self.meaning())?;
-        if self.number <= Refused::OUT_OF_RANGE {
+        if self.is_of_a_line() {
             write!(f, ", at offset {} (from 0)", self.place)?;
         }
         Ok(())

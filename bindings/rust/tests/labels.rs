@@ -91,7 +91,9 @@ fn refusals_say_number_place_and_meaning() {
     assert_eq!(refused(b"GW1,2,3"), (10, 0));
     assert_eq!(refused(b"GW0,0,-1,1,"), (11, 0));
     assert_eq!(refused(b"GW0,0,1,1,"), (12, 0));
-    assert_eq!(refused(b"X2147483647,0,1,-1,0"), (13, 0));
+    assert_eq!(refused(b"R1\nLO2147483647,0,1,1"), (13, 3));
+    assert_eq!(refused(b"X2147483647,0,1,-1,0"), (19, 0));
+    assert_eq!(refused(b"R0,-2147483648\nX2147483647,-1,1,-1,-1"), (13, 15));
     let words = labels(b"LO1\n").next().unwrap().unwrap_err().to_string();
     assert_eq!(words, "refused (4): a line (LO, LW, LE) needs 4 fields: x, y, width, height, at offset 0 (from 0)");
     assert_eq!(Refused { number: 14, place: 0 }.to_string(), "refused (14): more than 16,777,216 bytes");
@@ -106,13 +108,13 @@ fn refusals_say_number_place_and_meaning() {
 #[test]
 fn words_of_c() {
     let printed = include_str!("../../../samples/expected/refusals.err");
-    let meanings: Vec<&str> = (1..=16).map(|number| Refused { number, place: 0 }.meaning()).collect();
-    for (number, meaning) in (1..).zip(&meanings[..14]) {
-        let line = format!("laddertick: -: refused ({number}): {meaning}");
+    let meaning = |number| Refused { number, place: 0 }.meaning();
+    for number in (1..=14).chain([19]) {
+        let line = format!("laddertick: -: refused ({number}): {}", meaning(number));
         assert!(printed.lines().any(|said| said == line), "{line}");
     }
-    assert_eq!(meanings[14], "the buffer is too short");
-    assert_eq!(meanings[15], "a walk whose place is past the end, or whose pending count is above its place");
+    assert_eq!(meaning(15), "the buffer is too short");
+    assert_eq!(meaning(16), "a walk whose place is past the end, or whose pending count is above its place");
     assert_eq!(Refused { number: 17, place: 0 }.meaning(), "unknown");
 }
 

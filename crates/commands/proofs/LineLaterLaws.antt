@@ -65,16 +65,17 @@ module _ (k : ℕ) where
   later-yields placing.Outside f g h = refl
 
   -- `A`
-  later-text : (f : TextFields) (d : DataSpan) (i : Scaled) (p : Placed) → Later (textOf f (later k d) i p) (textOf f d i p)
-  later-text f d (scaled.Font i) p = later-yields p _ _ (λ at. refl)
-  later-text f d scaled.Outside p = refl
+  later-text : (f : TextFields) (d : DataSpan) (p : Placed) (i : Scaled) → Later (textOf f (later k d) p i) (textOf f d p i)
+  later-text f d (placing.At at) (scaled.Font i) = refl
+  later-text f d (placing.At at) scaled.Outside = refl
+  later-text f d placing.Outside i = refl
 
   text-later : (s : List ℕ) (d : DataSpan) (r : LabelPosition) → Later (textReading s (later k d) r) (textReading s d r)
   unfolding textReading textElement
   text-later s d r =
       let f = textFields s in
       later-cond (ltb (length (fields s)) 7) _ _ _ _ refl
-      (later-text f d (fontOf (f .font) (f .scale .«h_mult») (f .scale .«v_mult») (f .rotation)) (placed (f .at .x) (f .at .y) r))
+      (later-text f d (placed (f .at .x) (f .at .y) r) (fontOf (f .font) (f .scale .«h_mult») (f .scale .«v_mult») (f .rotation)))
 
   -- `B`
   later-barcode : (y : Symbology) (b : Barcode) → Later (barcodeElement y (record { orientation = b .orientation; bars = b .bars; position = b .position; «data» = later k (b .«data») })) (barcodeElement y b)
@@ -130,6 +131,7 @@ module _ (k : ℕ) where
   later-diagonal : (t : ℤ) (c : Cornered) → Later (diagonalOf t c) (diagonalOf t c)
   later-diagonal t (cornered.At d) = refl
   later-diagonal t cornered.Outside = refl
+  later-diagonal t cornered.SizeOutside = refl
 
   diagonal-stays : (s : List ℕ) (r : LabelPosition) → Later (diagonalReading s r) (diagonalReading s r)
   unfolding diagonalReading
@@ -138,6 +140,7 @@ module _ (k : ℕ) where
   later-box : (t : ℤ) (c : Cornered) → Later (boxOf t c) (boxOf t c)
   later-box t (cornered.At d) = refl
   later-box t cornered.Outside = refl
+  later-box t cornered.SizeOutside = refl
 
   box-stays : (s : List ℕ) (r : LabelPosition) → Later (boxReading s r) (boxReading s r)
   unfolding boxReading

@@ -1,5 +1,5 @@
--- Corners as `read_corners` answers them are those of the fields (`corners-are`), and what they give is what the two
--- axes give (`drawn-is`). Assumes nothing.
+-- Corners as `read_corners` answers them are those of the fields (`corners-are`), and what they give at a position is
+-- what the two axes give (`sized-is`). Assumes nothing.
 use mathlib.Core.Path.{_≡_, refl}
 use mathlib.Core.Bool.{Bool, true, false, cond, not, _&&_, _||_}
 use mathlib.Core.List.{List}
@@ -17,7 +17,7 @@ use Rattle.parameters.specs.FieldValues.{fieldsFrom}
 use Rattle.parameters.proofs.ParamsLaws.{reached}
 use Rattle.draws.specs.declared.draw.Corners.{Corners}
 use Rattle.draws.specs.declared.draw.CornersRead.{CornersRead}
-use Rattle.draws.specs.Draw.{cornersAt, isPositive, isNegative, isZero, direction, drawnAt}
+use Rattle.draws.specs.Draw.{cornersAt, isPositive, isNegative, isZero, direction, sizedAt}
 use Rattle.draws.specs.Axes.{cornersRead, extentOf, sameWay, onAxes}
 
 module _ (s : List ℕ) {r : CornersRead} (is : r ≡ cornersRead s) where
@@ -50,9 +50,9 @@ same-way-is dx dy = rw (zero-is dx, zero-is dy) (by (isPositive dx) (isNegative 
     by false false c d = refl
 
 -- what the two axes give is what the corners give
-pub drawn-is : (c : Corners) (r : LabelPosition) → drawnAt c r ≡ onAxes (extentOf (c .first .x) (c .second .x)) (extentOf (c .first .y) (c .second .y)) r
-unfolding drawnAt extentOf
-drawn-is c r =
+pub sized-is : (c : Corners) (p : LabelPosition) → sizedAt c p ≡ onAxes p (extentOf (c .first .x) (c .second .x)) (extentOf (c .first .y) (c .second .y))
+unfolding sizedAt extentOf
+sized-is c p =
     let dx = c .second .x -ℤ c .first .x in
     let dy = c .second .y -ℤ c .first .y in
     test (in32 dx)

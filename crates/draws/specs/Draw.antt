@@ -73,24 +73,25 @@ isZero d = eqZ d (pos 0)
 abbrev pub direction : ℤ → ℤ → Bool
 direction dx dy = (isPositive dx && isPositive dy) || (isNegative dx && isNegative dy) || (isZero dx && isZero dy)
 
--- a width, a height and a direction at a position, or 13 where it has none
-abbrev pub drawnBy : ℤ → ℤ → Bool → Placed → Cornered
-drawnBy w h way (placing.At p) = cornered.At (record { position = p; width = w; height = h; «same_way» = way })
-drawnBy w h way placing.Outside = cornered.Outside
+-- go on with a position, or give 13 where there is none
+abbrev pub ifPlaced : Placed → (LabelPosition → Cornered) → Cornered
+ifPlaced (placing.At p) go = go p
+ifPlaced placing.Outside go = cornered.Outside
 
--- "the position is the smaller of each pair, width and height are the absolute differences"; the differences and their
--- absolute values must fit 32 bits too
+-- ".. width and height are the absolute differences"; the differences and their absolute values must fit 32 bits, or
+-- 19
+unfoldable pub sizedAt : Corners → LabelPosition → Cornered
+sizedAt c p =
+    ifFits (checked (c .second .x -ℤ c .first .x)) cornered.SizeOutside λ dx.
+    ifFits (checked (absZ dx)) cornered.SizeOutside λ width.
+    ifFits (checked (c .second .y -ℤ c .first .y)) cornered.SizeOutside λ dy.
+    ifFits (checked (absZ dy)) cornered.SizeOutside λ height.
+    cornered.At (record { position = p; width = width; height = height; «same_way» = direction dx dy })
+
+-- "the position is the smaller of each pair, .."; where a line has both faults, "the position comes first"
 unfoldable pub drawnAt : Corners → LabelPosition → Cornered
 drawnAt c r =
-    let x1 = c .first .x in
-    let y1 = c .first .y in
-    let x2 = c .second .x in
-    let y2 = c .second .y in
-    ifFits (checked (x2 -ℤ x1)) cornered.Outside λ dx.
-    ifFits (checked (absZ dx)) cornered.Outside λ width.
-    ifFits (checked (y2 -ℤ y1)) cornered.Outside λ dy.
-    ifFits (checked (absZ dy)) cornered.Outside λ height.
-    drawnBy width height (direction dx dy) (placed (minZ x1 x2) (minZ y1 y2) r)
+    ifPlaced (placed (minZ (c .first .x) (c .second .x)) (minZ (c .first .y) (c .second .y)) r) (sizedAt c)
 
 -- `LS`
 abbrev pub diagonalOf : ℤ → Cornered → LineReading
@@ -105,6 +106,7 @@ diagonalOf t (cornered.At d) =
       «top_to_bottom» = d .«same_way»;
     }))
 diagonalOf t cornered.Outside = reading.Refused refusal.OutOfRange
+diagonalOf t cornered.SizeOutside = reading.Refused refusal.SizeOutside
 
 -- `LS`: "at least 5", or 5
 unfoldable pub diagonalReading : List ℕ → LabelPosition → LineReading
@@ -125,6 +127,7 @@ boxOf t (cornered.At d) =
       «line_color» = colour.Black;
     }))
 boxOf t cornered.Outside = reading.Refused refusal.OutOfRange
+boxOf t cornered.SizeOutside = reading.Refused refusal.SizeOutside
 
 -- `X`: "at least 5", or 6
 unfoldable pub boxReading : List ℕ → LabelPosition → LineReading

@@ -109,9 +109,8 @@ pub(crate) fn read_corners(s: &[u8]) -> CornersRead
     }
 }
 
-// One axis of two corners: the smaller end, how far the other is, and the sign of second less first.
+// One axis of two corners: how far they are from each other, and the sign of second less first.
 pub struct Extent {
-    pub low: i32,
     pub size: i32,
     pub rises: bool,
     pub falls: bool,
@@ -133,7 +132,6 @@ pub(crate) fn extent_of(a: i32, b: i32) -> Measured
         return Measured::Outside;
     };
     Measured::Of(Extent {
-        low: min(a, b),
         size,
         rises: 0 < d,
         falls: d < 0,
@@ -148,9 +146,11 @@ pub struct Drawn {
     pub same_way: bool,
 }
 
+// The position comes first: Outside where it has no 32 bits, else SizeOutside where a size has none.
 pub enum Cornered {
     At(Drawn),
     Outside,
+    SizeOutside,
 }
 
 pub(crate) fn drawn_at(c: Corners, reference: LabelPosition) -> Cornered
@@ -158,14 +158,14 @@ pub(crate) fn drawn_at(c: Corners, reference: LabelPosition) -> Cornered
 {
     let a = c.first;
     let b = c.second;
-    let Measured::Of(across) = extent_of(a.x, b.x) else {
+    let Placed::At(position) = place(min(a.x, b.x), min(a.y, b.y), reference) else {
         return Cornered::Outside;
+    };
+    let Measured::Of(across) = extent_of(a.x, b.x) else {
+        return Cornered::SizeOutside;
     };
     let Measured::Of(down) = extent_of(a.y, b.y) else {
-        return Cornered::Outside;
-    };
-    let Placed::At(position) = place(across.low, down.low, reference) else {
-        return Cornered::Outside;
+        return Cornered::SizeOutside;
     };
     Cornered::At(Drawn {
         position,
@@ -198,17 +198,20 @@ pub fn parse_epl_diagonal(params: &[u8], reference: LabelPosition) -> LineReadin
 fn diagonal(thickness: i32, d: Cornered) -> LineReading
     ensures { λ r. ⌜ r ≡ diagonalOf thickness d ⌝ }
 {
-    let Cornered::At(at) = d else {
-        return LineReading::Refused(Refusal::OutOfRange);
-    };
-    let position = at.position;
-    LineReading::Element(LabelElement::DiagonalLine(GraphicDiagonalLine {
-        position,
-        width: at.width,
-        height: at.height,
-        border_thickness: thickness,
-        top_to_bottom: at.same_way,
-    }))
+    match d {
+        Cornered::At(at) => {
+            let position = at.position;
+            LineReading::Element(LabelElement::DiagonalLine(GraphicDiagonalLine {
+                position,
+                width: at.width,
+                height: at.height,
+                border_thickness: thickness,
+                top_to_bottom: at.same_way,
+            }))
+        }
+        Cornered::Outside => LineReading::Refused(Refusal::OutOfRange),
+        Cornered::SizeOutside => LineReading::Refused(Refusal::SizeOutside),
+    }
 }
 
 // `X`: the parameters after the letter, at a reference.
@@ -226,15 +229,18 @@ pub fn parse_epl_box(params: &[u8], reference: LabelPosition) -> LineReading
 fn boxed(thickness: i32, d: Cornered) -> LineReading
     ensures { λ r. ⌜ r ≡ boxOf thickness d ⌝ }
 {
-    let Cornered::At(at) = d else {
-        return LineReading::Refused(Refusal::OutOfRange);
-    };
-    let position = at.position;
-    LineReading::Element(LabelElement::GraphicBox(GraphicBox {
-        position,
-        width: at.width,
-        height: at.height,
-        border_thickness: thickness,
-        line_color: LineColor::Black,
-    }))
+    match d {
+        Cornered::At(at) => {
+            let position = at.position;
+            LineReading::Element(LabelElement::GraphicBox(GraphicBox {
+                position,
+                width: at.width,
+                height: at.height,
+                border_thickness: thickness,
+                line_color: LineColor::Black,
+            }))
+        }
+        Cornered::Outside => LineReading::Refused(Refusal::OutOfRange),
+        Cornered::SizeOutside => LineReading::Refused(Refusal::SizeOutside),
+    }
 }

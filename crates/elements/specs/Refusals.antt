@@ -6,7 +6,7 @@ use Rattle.elements.specs.declared.refusal.Refusal.the-variants.{LineFie
 use Rattle.elements.specs.declared.refusal.Refusal.the-variants.{BarcodeType, Barcode2dType, QrData}
 use Rattle.elements.specs.declared.refusal.Refusal.the-variants.{GraphicFields, GraphicNegative, GraphicTruncated}
 use Rattle.elements.specs.declared.refusal.Refusal.the-variants.{OutOfRange, InputTooLong, OutputTooShort}
-use Rattle.elements.specs.declared.refusal.Refusal.the-variants.{StateOutside}
+use Rattle.elements.specs.declared.refusal.Refusal.the-variants.{StateOutside, SizeOutside}
 
 abbrev pub numberOf : Refusal → ℕ
 -- 1 `A`, 2 `B`, 3 `b`, 4 `LO`/`LW`/`LE`, 5 `LS`, 6 `X` with too few fields
@@ -24,10 +24,12 @@ numberOf QrData = 9
 numberOf GraphicFields = 10
 numberOf GraphicNegative = 11
 numberOf GraphicTruncated = 12
--- 13 a sum with the reference, a difference, its absolute value or a font product outside 32 bits
+-- 13 a sum with the reference outside 32 bits
 numberOf OutOfRange = 13
 -- 14 input over 16,777,216 bytes; 15 output longer than its buffer; 16 walk state with its place past the end, or its
 -- pending count above its place
 numberOf InputTooLong = 14
 numberOf OutputTooShort = 15
 numberOf StateOutside = 16
+-- 19 a difference, its absolute value or a font product outside 32 bits
+numberOf SizeOutside = 19

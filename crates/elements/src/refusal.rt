@@ -21,13 +21,15 @@ pub enum Refusal {
     GraphicFields,
     GraphicNegative,
     GraphicTruncated,
-    // The author of the label: a position or size outside 32 bits.
+    // The author of the label: a sum with the reference outside 32 bits.
     OutOfRange,
     // The host: input too long, buffer too short, a walk state with its place past the end, or its pending count above
     // its place.
     InputTooLong,
     OutputTooShort,
     StateOutside,
+    // The author of the label: a difference, its absolute value or a font product outside 32 bits.
+    SizeOutside,
 }
 
 impl Refusal {
@@ -52,6 +54,7 @@ impl Refusal {
             Refusal::InputTooLong => 14,
             Refusal::OutputTooShort => 15,
             Refusal::StateOutside => 16,
+            Refusal::SizeOutside => 19,
         }
     }
 }

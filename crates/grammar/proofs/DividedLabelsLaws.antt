@@ -12,9 +12,9 @@ use Rattle.whole.specs.Division.{Division, done, more}
 use Rattle.whole.specs.Labels.{Label, Labels, labels, out, flush, Run, goes, leaves, before, andThen, closed, effect, run, labelsOf}
 use Rattle.grammar.specs.Units.{EplUnit}
 use Rattle.grammar.specs.Epl.{EplAct, acts, epl}
-use Rattle.grammar.specs.Ranges.{sizesOf, refAfter, InRange, Role, passes, clears, yields, prints, roleOf, Does}
+use Rattle.grammar.specs.Ranges.{refAfter, InRange, Role, passes, clears, yields, prints, roleOf, Does}
 use Rattle.grammar.specs.Divided.{yieldedBy, pendingAfter, printedBy, labelsBy}
-use Rattle.grammar.proofs.RangesLaws.{clash, ActsAs, acts-unit}
+use Rattle.grammar.proofs.RangesLaws.{beyond-unfit, ActsAs, acts-unit}
 
 module _ (F : Type 0) (frame : List ℕ → LabelElement → F) where
   abbrev EplRun : Type 0
@@ -39,16 +39,16 @@ module _ (F : Type 0) (frame : List ℕ → LabelElement → F) where
   closed-before ls (goes ks r p) ms e = ap labels (append-assoc ls ks (flush tt p) ∙ ap (λ (x : List (Label F Unit)). ls ++ x) (same-labels e))
   closed-before ls (leaves n) ms e = absurd (out≢labels e)
 
-  -- the labels by the units' roles, or a run that leaves the range as 13
+  -- the labels by the units' roles, or a run that leaves the range
   abbrev Decided : LabelPosition → List F → List EplUnit → Type 0
-  Decided r p us = (InRange r us × (labelsOf epl F frame r p us ≡ labels (labelsBy frame r p us))) ⊎ ((InRange r us → ⊥) × (run epl F frame r p us ≡ leaves 13))
+  Decided r p us = (InRange r us × (labelsOf epl F frame r p us ≡ labels (labelsBy frame r p us))) ⊎ ((InRange r us → ⊥) × (n : ℕ) × (run epl F frame r p us ≡ leaves n))
 
   decided : {s : List ℕ} {us : List EplUnit} → Division epl s us → (r : LabelPosition) (p : List F) → Decided r p us
   decided done r p = inl (tt, refl)
   decided (more {u} {us} {s} {rest} e st d) r p = by (acts-unit r u rest st) (decided d (refAfter r u))
     where
       by : ActsAs r u → ((p′ : List F) → Decided (refAfter r u) p′ us) → Decided r p (u ∷ us)
-      by (inr h) again = inr ((λ i. clash (sizesOf r u) (i .0) (h .0)), ap (λ (a : EplAct). andThen (effect epl F frame r p u a) (λ r′ p′. run epl F frame r′ p′ us)) (h .1))
+      by (inr h) again = inr ((λ i. beyond-unfit r u (h .1) (i .0)), h .0, ap (λ (a : EplAct). andThen (effect epl F frame r p u a) (λ r′ p′. run epl F frame r′ p′ us)) (h .2))
       by (inl h) again = on (again after)
         where
           after : List F
@@ -62,7 +62,7 @@ module _ (F : Type 0) (frame : List ℕ → LabelElement → F) where
 
           on : Decided (refAfter r u) after us → Decided r p (u ∷ us)
           on (inl i) = inl ((h .0, i .0), ap (closed tt) step ∙ closed-before ls (run epl F frame (refAfter r u) after us) (labelsBy frame (refAfter r u) after us) (i .1))
-          on (inr i) = inr ((λ k. i .0 (k .1)), step ∙ ap (before ls) (i .1))
+          on (inr i) = inr ((λ k. i .0 (k .1)), i .1, step ∙ ap (before ls) (i .2))
 
   module _ {s : List ℕ} {us : List EplUnit} (d : Division epl s us) (r : LabelPosition) (p : List F) where
     -- a division in range has the labels that its units' roles say
@@ -79,4 +79,4 @@ module _ (F : Type 0) (frame : List ℕ → LabelElement → F) where
       where
         by : Decided r p us → InRange r us × (labelsBy frame r p us ≡ ls)
         by (inl h) = (h .0, same-labels (sym (h .1) ∙ e))
-        by (inr h) = absurd (out≢labels (sym (ap (closed tt) (h .1)) ∙ e))
+        by (inr h) = absurd (out≢labels (sym (ap (closed tt) (h .2)) ∙ e))

@@ -1,11 +1,11 @@
--- What a unit yields is of its command's kind, and stands where the sums of its numbers say (`shape`). Assumes nothing.
+-- What a unit yields is of its command's kind, and stands where its sums with the reference say (`shape`). Assumes nothing.
 use mathlib.Core.Path.{_≡_, refl, ap, subst, _∙_}
 use mathlib.Core.Bool.{Bool, true, false, cond, _&&_}
-use mathlib.Core.List.{List, [], _∷_, _++_}
+use mathlib.Core.List.{List, [], _∷_}
 use Prim.Native.Nat.{ℕ}
 use lib.Dec.{eqb, leb, ltb}
 use lib.IntN.{ℤ, _+ℤ_, _-ℤ_}
-use lib.ListN.{length, take, drop}
+use lib.ListN.{length, drop}
 use Rattle.text.specs.Blank.{trim}
 use Rattle.text.specs.Fields.{fields, field, quoted, same}
 use Rattle.text.specs.Table.{Row, row, meaning}
@@ -13,13 +13,17 @@ use Rattle.text.specs.Utf8.{decode}
 use Rattle.text.proofs.BoolLaws.{test, and-both}
 use Rattle.numbers.specs.Int.{in32, minZ, absZ}
 use Rattle.elements.specs.declared.DataSpan.{DataSpan}
+use Rattle.elements.specs.declared.FontInfo.{FontInfo}
 use Rattle.elements.specs.declared.LabelElement.{LabelElement}
+use Rattle.elements.specs.declared.LabelElement.the-variants as element
 use Rattle.elements.specs.declared.LabelPosition.{LabelPosition}
 use Rattle.elements.specs.declared.LineColor.{LineColor}
 use Rattle.elements.specs.declared.refusal.Refusal.{Refusal}
 use Rattle.elements.specs.declared.refusal.Refusal.the-variants as refusal
 use Rattle.parameters.specs.declared.reading.LineReading.{LineReading}
 use Rattle.parameters.specs.declared.reading.LineReading.the-variants as reading
+use Rattle.parameters.specs.declared.position.Placed.{Placed}
+use Rattle.parameters.specs.declared.position.Placed.the-variants as placing
 use Rattle.parameters.specs.FieldValues.{pointOf, fieldsFrom}
 use Rattle.parameters.specs.Position.{placed}
 use Rattle.parameters.specs.Position as position
@@ -31,7 +35,7 @@ use Rattle.texts.specs.Text.{textFields, textOf, textElement, textReading}
 use Rattle.draws.specs.declared.draw.Corners.{Corners}
 use Rattle.draws.specs.declared.draw.Cornered.{Cornered}
 use Rattle.draws.specs.declared.draw.Cornered.the-variants as cornered
-use Rattle.draws.specs.Draw.{lineFields, lineElement, lineReading, cornersAt, drawnAt, diagonalOf, diagonalReading, boxOf, boxReading}
+use Rattle.draws.specs.Draw.{lineFields, lineElement, lineReading, cornersAt, sizedAt, drawnAt, diagonalOf, diagonalReading, boxOf, boxReading}
 use Rattle.barcodes.specs.declared.barcode.Barcode.{Barcode}
 use Rattle.barcodes.specs.declared.barcode.BarcodeFields.{BarcodeFields}
 use Rattle.barcodes.specs.Barcode as bars
@@ -52,17 +56,17 @@ use Rattle.whole.specs.Language.{yield}
 use Rattle.grammar.specs.Units.{EplUnit, block, line, last, number, Stands}
 use Rattle.grammar.specs.WellFormed.{dataCounted, dataTyped, dataSized, wellFormedAs, wellFormed}
 use Rattle.grammar.specs.Epl.{actOf, blockSays, acts}
-use Rattle.grammar.specs.Ranges.{sums, dataSizes, between, cornerSizes, sizesAs, sizesOf}
+use Rattle.grammar.specs.Ranges.{sums, cornerSums, sumsAs, sumsOf}
 use Rattle.grammar.specs.Shapes.{kindOf, placeOf, barKinds, matrixKinds, dataKind, kindAs, kindBy, Shape}
 use Rattle.grammar.proofs.LineFaultsLaws.{faultless}
 use Rattle.grammar.proofs.EplLaws.{act-yields}
 
--- an element, if it is one, of the kind k that stands at the first two of zs
+-- an element, if it is one, of the kind k that stands at zs
 abbrev Shaped : ℕ → List ℤ → LineReading → Type 0
 Shaped k zs reading.Passed = Unit
 Shaped k zs reading.Clear = Unit
 Shaped k zs (reading.Reference x y) = Unit
-Shaped k zs (reading.Element e) = (kindOf e ≡ k) × (placeOf e .x ∷ placeOf e .y ∷ [] ≡ take 2 zs)
+Shaped k zs (reading.Element e) = (kindOf e ≡ k) × (placeOf e .x ∷ placeOf e .y ∷ [] ≡ zs)
 Shaped k zs reading.Print = Unit
 Shaped k zs (reading.Refused n) = Unit
 
@@ -70,10 +74,10 @@ shaped-cond : (b : Bool) (n : Refusal) (k : ℕ) (zs : List ℤ) (x : LineReadin
 shaped-cond true n k zs x h = tt
 shaped-cond false n k zs x h = h
 
-shaped-yields : (k : ℕ) (x y : ℤ) (r : LabelPosition) (zs : List ℤ) (f : LabelPosition → LabelElement)
-    → ((at : LabelPosition) → (kindOf (f at) ≡ k) × (placeOf (f at) ≡ at)) → Shaped k (sums x y r ++ zs) (position.yields (placed x y r) f)
+shaped-yields : (k : ℕ) (x y : ℤ) (r : LabelPosition) (f : LabelPosition → LabelElement)
+    → ((at : LabelPosition) → (kindOf (f at) ≡ k) × (placeOf (f at) ≡ at)) → Shaped k (sums x y r) (position.yields (placed x y r) f)
 unfolding placed
-shaped-yields k x y r zs f h =
+shaped-yields k x y r f h =
     let a = x +ℤ r .x in let b = y +ℤ r .y in
     let at : LabelPosition = record { x = a; y = b } in
     test (in32 a)
@@ -87,60 +91,76 @@ shaped-line : (s : List ℕ) (c : LineColor) (r : LabelPosition) → Shaped 0x02
 unfolding lineReading lineElement lineFields pointOf
 shaped-line s c r =
     let x = number (field s 0) in let y = number (field s 1) in
-    shaped-cond (ltb (length (fields s)) 4) refusal.LineFields 0x02 (sums x y r) _ (shaped-yields 0x02 x y r [] _ (λ at. (refl, refl)))
+    shaped-cond (ltb (length (fields s)) 4) refusal.LineFields 0x02 (sums x y r) _ (shaped-yields 0x02 x y r _ (λ at. (refl, refl)))
 
 abbrev CorneredAt : List ℤ → Cornered → Type 0
-CorneredAt zs (cornered.At d) = d .position .x ∷ d .position .y ∷ [] ≡ take 2 zs
+CorneredAt zs (cornered.At d) = d .position .x ∷ d .position .y ∷ [] ≡ zs
 CorneredAt zs cornered.Outside = Unit
+CorneredAt zs cornered.SizeOutside = Unit
 
-cornered-at : (c : Corners) (r : LabelPosition) → CorneredAt (between (c .first .x) (c .first .y) (c .second .x) (c .second .y) r) (drawnAt c r)
-unfolding drawnAt placed
-cornered-at c r =
+sized-at : (c : Corners) (p : LabelPosition) → CorneredAt (p .x ∷ p .y ∷ []) (sizedAt c p)
+unfolding sizedAt
+sized-at c p =
     let x = c .second .x -ℤ c .first .x in let y = c .second .y -ℤ c .first .y in
-    let u = minZ (c .first .x) (c .second .x) +ℤ r .x in let v = minZ (c .first .y) (c .second .y) +ℤ r .y in
     test (in32 x)
     (λ a. test (in32 (absZ x))
     (λ b. test (in32 y)
     (λ e. test (in32 (absZ y))
-    (λ f. test (in32 u)
-    (λ g. test (in32 v)
-    (λ h. simp (a, b, e, f, g, h) refl)
-    (λ h. simp (a, b, e, f, g, h) tt))
-    (λ g. simp (a, b, e, f, g) tt))
+    (λ f. simp (a, b, e, f) refl)
     (λ f. simp (a, b, e, f) tt))
     (λ e. simp (a, b, e) tt))
     (λ b. simp (a, b) tt))
     (λ a. simp a tt)
 
+cornered-at : (c : Corners) (r : LabelPosition) → CorneredAt (sums (minZ (c .first .x) (c .second .x)) (minZ (c .first .y) (c .second .y)) r) (drawnAt c r)
+unfolding drawnAt placed
+cornered-at c r =
+    let u = minZ (c .first .x) (c .second .x) +ℤ r .x in let v = minZ (c .first .y) (c .second .y) +ℤ r .y in
+    test (in32 u)
+    (λ g. test (in32 v)
+    (λ h. simp (g, h) (sized-at c (record { x = u; y = v })))
+    (λ h. simp (g, h) tt))
+    (λ g. simp g tt)
+
 shaped-diagonal : (zs : List ℤ) (t : ℤ) (c : Cornered) → CorneredAt zs c → Shaped 0x03 zs (diagonalOf t c)
 shaped-diagonal zs t (cornered.At d) h = (refl, h)
 shaped-diagonal zs t cornered.Outside h = tt
+shaped-diagonal zs t cornered.SizeOutside h = tt
 
 shaped-box : (zs : List ℤ) (t : ℤ) (c : Cornered) → CorneredAt zs c → Shaped 0x02 zs (boxOf t c)
 shaped-box zs t (cornered.At d) h = (refl, h)
 shaped-box zs t cornered.Outside h = tt
+shaped-box zs t cornered.SizeOutside h = tt
 
-shaped-ls : (s : List ℕ) (r : LabelPosition) → Shaped 0x03 (cornerSizes s r) (diagonalReading s r)
+shaped-ls : (s : List ℕ) (r : LabelPosition) → Shaped 0x03 (cornerSums s r) (diagonalReading s r)
 unfolding diagonalReading cornersAt pointOf
 shaped-ls s r =
-    shaped-cond (ltb (length (fields s)) 5) refusal.DiagonalFields 0x03 (cornerSizes s r) _ (shaped-diagonal (cornerSizes s r) (cornersAt s .thickness) (drawnAt (cornersAt s) r) (cornered-at (cornersAt s) r))
+    shaped-cond (ltb (length (fields s)) 5) refusal.DiagonalFields 0x03 (cornerSums s r) _ (shaped-diagonal (cornerSums s r) (cornersAt s .thickness) (drawnAt (cornersAt s) r) (cornered-at (cornersAt s) r))
 
-shaped-x : (s : List ℕ) (r : LabelPosition) → Shaped 0x02 (cornerSizes s r) (boxReading s r)
+shaped-x : (s : List ℕ) (r : LabelPosition) → Shaped 0x02 (cornerSums s r) (boxReading s r)
 unfolding boxReading cornersAt pointOf
 shaped-x s r =
-    shaped-cond (ltb (length (fields s)) 5) refusal.BoxFields 0x02 (cornerSizes s r) _ (shaped-box (cornerSizes s r) (cornersAt s .thickness) (drawnAt (cornersAt s) r) (cornered-at (cornersAt s) r))
+    shaped-cond (ltb (length (fields s)) 5) refusal.BoxFields 0x02 (cornerSums s r) _ (shaped-box (cornerSums s r) (cornersAt s .thickness) (drawnAt (cornersAt s) r) (cornered-at (cornersAt s) r))
 
 -- ---- `A`
-shaped-text : (x y : ℤ) (r : LabelPosition) (zs : List ℤ) (f : TextFields) (d : DataSpan) (i : Scaled) → Shaped 0x01 (sums x y r ++ zs) (textOf f d i (placed x y r))
-shaped-text x y r zs f d (scaled.Font i) = shaped-yields 0x01 x y r zs _ (λ at. (refl, refl))
-shaped-text x y r zs f d scaled.Outside = tt
+text-none : (zs : List ℤ) (f : TextFields) (d : DataSpan) (p : Placed) → Shaped 0x01 zs (textOf f d p scaled.Outside)
+text-none zs f d (placing.At at) = tt
+text-none zs f d placing.Outside = tt
 
-shaped-a : (s : List ℕ) (d : DataSpan) (r : LabelPosition) → Shaped 0x01 (dataSizes command.Text s r) (textReading s d r)
+text-is : (f : TextFields) (d : DataSpan) (i : FontInfo) (p : Placed) → textOf f d p (scaled.Font i) ≡ position.yields p (λ at. element.Text (record { position = at; «reverse_print» = f .scale .reverse; font = i; text = d }))
+text-is f d i (placing.At at) = refl
+text-is f d i placing.Outside = refl
+
+shaped-text : (x y : ℤ) (r : LabelPosition) (f : TextFields) (d : DataSpan) (i : Scaled) → Shaped 0x01 (sums x y r) (textOf f d (placed x y r) i)
+shaped-text x y r f d (scaled.Font i) = rw (text-is f d i (placed x y r)) (shaped-yields 0x01 x y r _ (λ at. (refl, refl)))
+shaped-text x y r f d scaled.Outside = text-none (sums x y r) f d (placed x y r)
+
+shaped-a : (s : List ℕ) (d : DataSpan) (r : LabelPosition) → Shaped 0x01 (sums (number (field s 0)) (number (field s 1)) r) (textReading s d r)
 unfolding textReading textElement textFields pointOf
 shaped-a s d r =
     let f = textFields s in
-    shaped-cond (ltb (length (fields s)) 7) refusal.TextFields 0x01 (dataSizes command.Text s r) _
-    (shaped-text (number (field s 0)) (number (field s 1)) r _ f d (fontOf (f .font) (f .scale .«h_mult») (f .scale .«v_mult») (f .rotation)))
+    shaped-cond (ltb (length (fields s)) 7) refusal.TextFields 0x01 (sums (number (field s 0)) (number (field s 1)) r) _
+    (shaped-text (number (field s 0)) (number (field s 1)) r f d (fontOf (f .font) (f .scale .«h_mult») (f .scale .«v_mult») (f .rotation)))
 
 -- ---- kinds by the readers' tables
 abbrev kindsBy : {A : Type 0} → (A → ℕ) → List (Row A) → List (Row ℕ)
@@ -199,7 +219,7 @@ shaped-bars f x y r d =
     (λ q. simp (p, q) tt))
     (λ p. simp p tt)
 
-shaped-b : (s : List ℕ) (d : DataSpan) (r : LabelPosition) → dataTyped command.Barcode s ≡ true → Shaped (dataKind command.Barcode s) (dataSizes command.Barcode s r) (barcodeReading s d r)
+shaped-b : (s : List ℕ) (d : DataSpan) (r : LabelPosition) → dataTyped command.Barcode s ≡ true → Shaped (dataKind command.Barcode s) (sums (number (field s 0)) (number (field s 1)) r) (barcodeReading s d r)
 unfolding barcodeReading barcodeAt barcodeFields pointOf
 shaped-b s d r t =
     let x = number (field s 0) in let y = number (field s 1) in
@@ -215,14 +235,14 @@ shaped-qr false zs x h = tt
 
 matrix-kind : (k : Symbology2d) (s t : List ℕ) (x y : ℤ) (r : LabelPosition) (d : DataSpan) → Shaped (matrixKind k) (sums x y r) (barcode2dAt k s t (placed x y r) d)
 unfolding aztecReading datamatrixReading maxicodeReading pdf417Reading qrReading
-matrix-kind two.Aztec s t x y r d = shaped-yields 0x0c x y r [] _ (λ at. (refl, refl))
-matrix-kind two.Datamatrix s t x y r d = shaped-yields 0x0d x y r [] _ (λ at. (refl, refl))
-matrix-kind two.Maxicode s t x y r d = shaped-yields 0x0f x y r [] _ (λ at. (refl, refl))
-matrix-kind two.Pdf417 s t x y r d = shaped-yields 0x0b x y r [] _ (λ at. (refl, refl))
-matrix-kind two.Qr s t x y r d = shaped-qr (leb (length (decode t)) 9999) (sums x y r) _ (shaped-yields 0x0e x y r [] _ (λ at. (refl, refl)))
+matrix-kind two.Aztec s t x y r d = shaped-yields 0x0c x y r _ (λ at. (refl, refl))
+matrix-kind two.Datamatrix s t x y r d = shaped-yields 0x0d x y r _ (λ at. (refl, refl))
+matrix-kind two.Maxicode s t x y r d = shaped-yields 0x0f x y r _ (λ at. (refl, refl))
+matrix-kind two.Pdf417 s t x y r d = shaped-yields 0x0b x y r _ (λ at. (refl, refl))
+matrix-kind two.Qr s t x y r d = shaped-qr (leb (length (decode t)) 9999) (sums x y r) _ (shaped-yields 0x0e x y r _ (λ at. (refl, refl)))
 matrix-kind two.Unlisted s t x y r d = tt
 
-shaped-2d : (s t : List ℕ) (d : DataSpan) (r : LabelPosition) → Shaped (dataKind command.Barcode2d s) (dataSizes command.Barcode2d s r) (barcode2dReading s t d r)
+shaped-2d : (s t : List ℕ) (d : DataSpan) (r : LabelPosition) → Shaped (dataKind command.Barcode2d s) (sums (number (field s 0)) (number (field s 1)) r) (barcode2dReading s t d r)
 unfolding barcode2dReading
 shaped-2d s t d r =
     let x = number (field s 0) in let y = number (field s 1) in
@@ -230,13 +250,13 @@ shaped-2d s t d r =
     (shaped-cond (ltb (length (fields s)) 3) refusal.Barcode2dFields (matrixKind (symbologyOf (trim (field s 2)))) (sums x y r) _
     (matrix-kind (symbologyOf (trim (field s 2))) (fieldsFrom 3 s) t x y r d))
 
-shaped-data : (c : DataCommand) (s t : List ℕ) (d : DataSpan) (r : LabelPosition) → dataTyped c s ≡ true → Shaped (dataKind c s) (dataSizes c s r) (withData c s t d r)
+shaped-data : (c : DataCommand) (s t : List ℕ) (d : DataSpan) (r : LabelPosition) → dataTyped c s ≡ true → Shaped (dataKind c s) (sums (number (field s 0)) (number (field s 1)) r) (withData c s t d r)
 shaped-data command.Text s t d r l = shaped-a s d r
 shaped-data command.Barcode s t d r l = shaped-b s d r l
 shaped-data command.Barcode2d s t d r l = shaped-2d s t d r
 
 -- ---- a line, a unit
-shaped-command : (c : Command) (lead : ℕ) (t : List ℕ) (r : LabelPosition) → wellFormedAs c t ≡ true → Shaped (kindAs c t) (sizesAs c t r) (commandReading c lead t r)
+shaped-command : (c : Command) (lead : ℕ) (t : List ℕ) (r : LabelPosition) → wellFormedAs c t ≡ true → Shaped (kindAs c t) (sumsAs c t r) (commandReading c lead t r)
 unfolding quotedReading
 shaped-command Clear lead t r w = tt
 shaped-command Reference lead t r w = tt
@@ -253,14 +273,14 @@ shaped-command Box lead t r w = shaped-x (drop 1 t) r
 shaped-command Print lead t r w = tt
 shaped-command Other lead t r w = tt
 
-shape-by : (r : LabelPosition) (u : EplUnit) (x : LineReading) (e : LabelElement) → Shaped (kindBy u) (sizesOf r u) x → actOf r x ≡ yield e → Shape r u e
-shape-by r u x e h a = let k = subst (Shaped (kindBy u) (sizesOf r u)) (act-yields r x e a) h in record { kind = k .0; place = k .1 }
+shape-by : (r : LabelPosition) (u : EplUnit) (x : LineReading) (e : LabelElement) → Shaped (kindBy u) (sumsOf r u) x → actOf r x ≡ yield e → Shape r u e
+shape-by r u x e h a = let k = subst (Shaped (kindBy u) (sumsOf r u)) (act-yields r x e a) h in record { kind = k .0; place = k .1 }
 
-shape-line : (r : LabelPosition) (t : List ℕ) → wellFormed (trim t) ≡ true → Shaped (kindBy (line t)) (sizesOf r (line t)) (readLine t r)
+shape-line : (r : LabelPosition) (t : List ℕ) → wellFormed (trim t) ≡ true → Shaped (kindBy (line t)) (sumsOf r (line t)) (readLine t r)
 unfolding wellFormed readLine
 shape-line r t w = shaped-command (commandOf (trim t)) (leadOf t) (trim t) r w
 
 pub shape : (r : LabelPosition) (u : EplUnit) (rest : List ℕ) (e : LabelElement) → Stands u rest → acts r u ≡ yield e → Shape r u e
-shape r (block bs h p) rest e st a = shape-by r (block bs h p) (blockSays bs h p r) e (shaped-yields 0x04 (number (h .x)) (number (h .y)) r [] _ (λ at. (refl, refl))) a
+shape r (block bs h p) rest e st a = shape-by r (block bs h p) (blockSays bs h p r) e (shaped-yields 0x04 (number (h .x)) (number (h .y)) r _ (λ at. (refl, refl))) a
 shape r (line t) rest e st a = shape-by r (line t) (readLine t r) e (shape-line r t (faultless (trim t) (st .well-formed))) a
 shape r (last t) rest e st a = shape-by r (last t) (readLine t r) e (shape-line r t (faultless (trim t) (st .0 .well-formed))) a

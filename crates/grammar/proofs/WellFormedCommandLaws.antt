@@ -1,9 +1,10 @@
 -- Each command that draws or has data (`meets-line`, `meets-diagonal`, `meets-box`, `meets-data`): refused as 01
--- numbers the test that fails; where all hold, an element with that data, or 13. A line is in WellFormedLaws. Assumes
+-- numbers the test that fails; where all hold, an element with that data, 13 or 19. A line is in WellFormedLaws. Assumes
 -- nothing.
 use mathlib.Core.Path.{_≡_, refl}
 use mathlib.Core.Bool.{Bool, true, false, cond, not, _&&_, _||_, false≢true}
 use mathlib.Core.List.{List, [], _∷_}
+use mathlib.Core.Logic.{_⊎_, inl, inr}
 use Prim.Native.Nat.{ℕ}
 use lib.Dec.{leb, ltb}
 use lib.IntN.{ℤ}
@@ -52,14 +53,14 @@ use Rattle.grammar.specs.Units.{number}
 use Rattle.grammar.specs.WellFormed.{atLeast, dataCounted, dataTyped, dataSized, typeFault, countFault}
 use Rattle.grammar.proofs.Barcode2dTypeLaws.{isListed2d, isQr, typed-2d}
 
--- past its tests: an element whose data is ds, or 13
+-- past its tests: an element whose data is ds, 13 or 19
 abbrev pub Passed : List DataSpan → LineReading → Type 0
 Passed ds reading.Passed = Unit
 Passed ds reading.Clear = Unit
 Passed ds (reading.Reference x y) = Unit
 Passed ds (reading.Element e) = spans e ≡ ds
 Passed ds reading.Print = Unit
-Passed ds (reading.Refused n) = n ≡ refusal.OutOfRange
+Passed ds (reading.Refused n) = (n ≡ refusal.OutOfRange) ⊎ (n ≡ refusal.SizeOutside)
 
 -- the tests hold, and the reading is past them; or it is refused as 01's number k
 abbrev pub Meets : Bool → ℕ → List DataSpan → LineReading → Type 0
@@ -68,7 +69,7 @@ Meets false k ds x = (n : Refusal) × (x ≡ reading.Refused n) × (numberOf n �
 
 passed-yields : (p : Placed) (f : LabelPosition → LabelElement) (ds : List DataSpan) → ((at : LabelPosition) → spans (f at) ≡ ds) → Passed ds (yields p f)
 passed-yields (placing.At p) f ds h = h p
-passed-yields placing.Outside f ds h = refl
+passed-yields placing.Outside f ds h = inl refl
 
 -- the number m of fields comes first, then the type, then the data's size
 meets-count : (m k : ℕ) (y z : Bool) (f : ℕ) (n : Refusal) (ds : List DataSpan) (x : LineReading) → Meets (y && z) f ds x
@@ -92,7 +93,8 @@ meets-line s c r =
 
 passed-diagonal : (t : ℤ) (c : Cornered) → Passed [] (diagonalOf t c)
 passed-diagonal t (cornered.At d) = refl
-passed-diagonal t cornered.Outside = refl
+passed-diagonal t cornered.Outside = inl refl
+passed-diagonal t cornered.SizeOutside = inr refl
 
 pub meets-diagonal : (s : List ℕ) (r : LabelPosition) → MeetsDrawn 5 5 s (diagonalReading s r)
 unfolding diagonalReading
@@ -100,7 +102,8 @@ meets-diagonal s r = meets-count (length (fields s)) 5 true true 9 refusal.Diago
 
 passed-box : (t : ℤ) (c : Cornered) → Passed [] (boxOf t c)
 passed-box t (cornered.At d) = refl
-passed-box t cornered.Outside = refl
+passed-box t cornered.Outside = inl refl
+passed-box t cornered.SizeOutside = inr refl
 
 pub meets-box : (s : List ℕ) (r : LabelPosition) → MeetsDrawn 5 6 s (boxReading s r)
 unfolding boxReading
@@ -113,16 +116,17 @@ MeetsData c s t d x =
 
 -- `A`
 
-passed-text : (f : TextFields) (d : DataSpan) (i : Scaled) (p : Placed) → Passed (d ∷ []) (textOf f d i p)
-passed-text f d (scaled.Font i) p = passed-yields p _ (d ∷ []) (λ at. refl)
-passed-text f d scaled.Outside p = refl
+passed-text : (f : TextFields) (d : DataSpan) (p : Placed) (i : Scaled) → Passed (d ∷ []) (textOf f d p i)
+passed-text f d (placing.At at) (scaled.Font i) = refl
+passed-text f d (placing.At at) scaled.Outside = inr refl
+passed-text f d placing.Outside i = inl refl
 
 meets-text : (s t : List ℕ) (d : DataSpan) (r : LabelPosition) → MeetsData command.Text s t d (textReading s d r)
 unfolding textReading textElement
 meets-text s t d r =
     let f = textFields s in
     meets-count (length (fields s)) 7 true true 9 refusal.TextFields (d ∷ []) _
-    (passed-text f d (fontOf (f .font) (f .scale .«h_mult») (f .scale .«v_mult») (f .rotation)) (placed (f .at .x) (f .at .y) r))
+    (passed-text f d (placed (f .at .x) (f .at .y) r) (fontOf (f .font) (f .scale .«h_mult») (f .scale .«v_mult») (f .rotation)))
 
 -- `B`
 
@@ -139,7 +143,7 @@ passed-barcode Unlisted b h = absurd (false≢true h)
 
 passed-placed : (f : BarcodeFields) (d : DataSpan) (p : Placed) → isListed (f .symbology) ≡ true → Passed (d ∷ []) (barcodePlaced f d p)
 passed-placed f d (placing.At p) h = passed-barcode (f .symbology) _ h
-passed-placed f d placing.Outside h = refl
+passed-placed f d placing.Outside h = inl refl
 
 meets-type : (x : Bool) (f : BarcodeFields) (d : DataSpan) (r : LabelPosition) → isListed (f .symbology) ≡ x → Meets (x && true) (cond x 9 7) (d ∷ []) (barcodeAt f d r)
 unfolding barcodeAt

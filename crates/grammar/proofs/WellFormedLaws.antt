@@ -1,9 +1,10 @@
--- A line that is not well formed is refused as 01 numbers it (`ill-formed`), a well-formed one only as 13
--- (`well-formed-range`), and the data of what it yields is its own (`yielded`). Each command is in
+-- A line that is not well formed is refused as 01 numbers it (`ill-formed`), a well-formed one only as 13 or
+-- 19 (`well-formed-range`), and the data of what it yields is its own (`yielded`). Each command is in
 -- WellFormedCommandLaws. Assumes nothing.
 use mathlib.Core.Path.{_≡_}
 use mathlib.Core.Bool.{Bool, true, false}
 use mathlib.Core.List.{List, [], _∷_}
+use mathlib.Core.Logic.{_⊎_}
 use Prim.Native.Nat.{ℕ}
 use lib.Dec.{eqb}
 use lib.ListN.{length, drop}
@@ -58,7 +59,7 @@ module _ (t : List ℕ) (r : LabelPosition) where
   pub ill-formed : wellFormed (trim t) ≡ false → (n : Refusal) × (readLine t r ≡ reading.Refused n) × (numberOf n ≡ faultOf (trim t))
   ill-formed h = meets false h
 
-  pub well-formed-range : (n : Refusal) → wellFormed (trim t) ≡ true → readLine t r ≡ reading.Refused n → n ≡ refusal.OutOfRange
+  pub well-formed-range : (n : Refusal) → wellFormed (trim t) ≡ true → readLine t r ≡ reading.Refused n → (n ≡ refusal.OutOfRange) ⊎ (n ≡ refusal.SizeOutside)
   well-formed-range n h e = rw e at (meets true h)
 
   -- a line that yields is well formed

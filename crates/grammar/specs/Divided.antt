@@ -1,8 +1,10 @@
 -- The labels of a division, and the earliest refused unit (01, "For demand 3"), from the roles of units, their
 -- numbers, the reference and the faults.
 use mathlib.Core.Path.{_≡_}
+use mathlib.Core.Bool.{cond}
 use mathlib.Core.List.{List, [], _∷_, _++_}
 use Prim.Native.Nat.{ℕ, _+_}
+use lib.Dec.{eqb}
 use lib.ListN.{length}
 use Rattle.elements.specs.declared.LabelElement.{LabelElement}
 use Rattle.elements.specs.declared.LabelPosition.{LabelPosition}
@@ -10,7 +12,7 @@ use Rattle.whole.specs.Language.{keep, clear, yield, print, outside}
 use Rattle.whole.specs.Labels.{Label, flush}
 use Rattle.grammar.specs.Units.{EplUnit, bytes, Stands}
 use Rattle.grammar.specs.Epl.{EplAct, acts}
-use Rattle.grammar.specs.Ranges.{AllFit, OneOut, sizesOf, refAfter, Role, passes, clears, yields, prints, roleOf}
+use Rattle.grammar.specs.Ranges.{AllFit, numbersOf, refAfter, Role, passes, clears, yields, prints, roleOf}
 use Rattle.grammar.specs.Faults.{Fault}
 
 -- F are frames, `frame s e` that of the element e in the string s
@@ -45,11 +47,15 @@ module _ {F : Type 0} (frame : List ℕ → LabelElement → F) where
       printedBy (roleOf u) p ++ labelsBy (refAfter r u) (pendingAfter (roleOf u) p (yieldedBy u (acts r u))) us
 
 -- "the earliest refused line" of s, which stands at a place with the reference r: number and place; at fault as it
--- stands, or with a number outside 32 bits, every unit before it being neither
-pub data Earliest : List ℕ → ℕ → LabelPosition → ℕ → ℕ → Type 0 where
-  faulty : {s : List ℕ} {at : ℕ} {r : LabelPosition} {n : ℕ} → Fault s n → Earliest s at r n at
-  beyond : (u : EplUnit) (rest : List ℕ) {s : List ℕ} {at : ℕ} {r : LabelPosition}
-      → s ≡ bytes u ++ rest → Stands u rest → OneOut (sizesOf r u) → Earliest s at r 13 at
+-- stands, or Out as that number, every unit before it being in range and not at fault
+pub data Earliest (Out : LabelPosition → EplUnit → ℕ → Type 0) : List ℕ → ℕ → LabelPosition → ℕ → ℕ → Type 0 where
+  faulty : {s : List ℕ} {at : ℕ} {r : LabelPosition} {n : ℕ} → Fault s n → Earliest Out s at r n at
+  beyond : (u : EplUnit) (rest : List ℕ) {s : List ℕ} {at : ℕ} {r : LabelPosition} {n : ℕ}
+      → s ≡ bytes u ++ rest → Stands u rest → Out r u n → Earliest Out s at r n at
   later : (u : EplUnit) (rest : List ℕ) {s : List ℕ} {at : ℕ} {r : LabelPosition} {n q : ℕ}
-      → s ≡ bytes u ++ rest → Stands u rest → AllFit (sizesOf r u)
-      → Earliest rest (at + length (bytes u)) (refAfter r u) n q → Earliest s at r n q
+      → s ≡ bytes u ++ rest → Stands u rest → AllFit (numbersOf r u)
+      → Earliest Out rest (at + length (bytes u)) (refAfter r u) n q → Earliest Out s at r n q
+
+-- 19 where positions and sizes have one number: "13 and 19 together cover what 13 covered"
+abbrev pub together : ℕ → ℕ
+together n = cond (eqb n 19) 13 n

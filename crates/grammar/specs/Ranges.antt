@@ -60,42 +60,102 @@ cell n go =
 abbrev pub products : ℤ → ℤ → ℤ → List ℤ
 products n h v = cell n λ width height. (height *ℤ v) ∷ cond (eqZ h v) [] ((h *ℤ width) ∷ [])
 
+-- ".. width and height are the absolute differences"
+abbrev pub differences : ℤ → ℤ → ℤ → ℤ → List ℤ
+differences x1 y1 x2 y2 = (x2 -ℤ x1) ∷ (y2 -ℤ y1) ∷ absZ (x2 -ℤ x1) ∷ absZ (y2 -ℤ y1) ∷ []
+
+-- ---- every position and size, by command
+
 -- "`A`: x, y, rotation, font, horizontal multiplier, vertical multiplier, .."; "`B`: x, y, .."; "`b`: x, y, .."
-abbrev pub dataSizes : DataCommand → List ℕ → LabelPosition → List ℤ
-dataSizes Text s r =
+abbrev pub dataNumbers : DataCommand → List ℕ → LabelPosition → List ℤ
+dataNumbers Text s r =
     sums (number (field s 0)) (number (field s 1)) r
     ++ products (fieldOr (pos 1) (field s 3)) (sizeOr (pos 1) (field s 4)) (sizeOr (pos 1) (field s 5))
-dataSizes Barcode s r = sums (number (field s 0)) (number (field s 1)) r
-dataSizes Barcode2d s r = sums (number (field s 0)) (number (field s 1)) r
+dataNumbers Barcode s r = sums (number (field s 0)) (number (field s 1)) r
+dataNumbers Barcode2d s r = sums (number (field s 0)) (number (field s 1)) r
 
 -- "the position is the smaller of each pair, width and height are the absolute differences"
 abbrev pub between : ℤ → ℤ → ℤ → ℤ → LabelPosition → List ℤ
-between x1 y1 x2 y2 r =
-    sums (minZ x1 x2) (minZ y1 y2) r
-    ++ ((x2 -ℤ x1) ∷ (y2 -ℤ y1) ∷ absZ (x2 -ℤ x1) ∷ absZ (y2 -ℤ y1) ∷ [])
+between x1 y1 x2 y2 r = sums (minZ x1 x2) (minZ y1 y2) r ++ differences x1 y1 x2 y2
 
 -- "`LS` and `X` (black): x1, y1, thickness, x2, y2"
-abbrev pub cornerSizes : List ℕ → LabelPosition → List ℤ
-cornerSizes s r = between (number (field s 0)) (number (field s 1)) (number (field s 3)) (number (field s 4)) r
+abbrev pub cornerNumbers : List ℕ → LabelPosition → List ℤ
+cornerNumbers s r = between (number (field s 0)) (number (field s 1)) (number (field s 3)) (number (field s 4)) r
 
 -- the numbers that must fit for a line t that spells c, at the reference r
-abbrev pub sizesAs : Command → List ℕ → LabelPosition → List ℤ
+abbrev pub numbersAs : Command → List ℕ → LabelPosition → List ℤ
 -- "Fewer than two quotes, or no data: nothing is read"
-sizesAs (Data c) t r = cond (isRead t) (dataSizes c (paramsOf t) r) []
+numbersAs (Data c) t r = cond (isRead t) (dataNumbers c (paramsOf t) r) []
 -- "`LO` (black), `LW` (white) and `LE` (exclusive-OR): x, y, .."
-sizesAs (Line c) t r = sums (number (field (drop 2 t) 0)) (number (field (drop 2 t) 1)) r
-sizesAs Diagonal t r = cornerSizes (drop 2 t) r
-sizesAs Box t r = cornerSizes (drop 1 t) r
-sizesAs Clear t r = []
-sizesAs Reference t r = []
-sizesAs Print t r = []
-sizesAs Other t r = []
+numbersAs (Line c) t r = sums (number (field (drop 2 t) 0)) (number (field (drop 2 t) 1)) r
+numbersAs Diagonal t r = cornerNumbers (drop 2 t) r
+numbersAs Box t r = cornerNumbers (drop 1 t) r
+numbersAs Clear t r = []
+numbersAs Reference t r = []
+numbersAs Print t r = []
+numbersAs Other t r = []
 
 -- the numbers that must fit for a unit at the reference r; "`GW`: x, y, .."
-abbrev pub sizesOf : LabelPosition → EplUnit → List ℤ
-sizesOf r (block bs h p) = sums (number (h .x)) (number (h .y)) r
-sizesOf r (line t) = sizesAs (commandOf (trim t)) (trim t) r
-sizesOf r (last t) = sizesAs (commandOf (trim t)) (trim t) r
+abbrev pub numbersOf : LabelPosition → EplUnit → List ℤ
+numbersOf r (block bs h p) = sums (number (h .x)) (number (h .y)) r
+numbersOf r (line t) = numbersAs (commandOf (trim t)) (trim t) r
+numbersOf r (last t) = numbersAs (commandOf (trim t)) (trim t) r
+
+-- ---- the sums with the reference among them: 13
+
+abbrev pub cornerSums : List ℕ → LabelPosition → List ℤ
+cornerSums s r =
+    sums (minZ (number (field s 0)) (number (field s 3))) (minZ (number (field s 1)) (number (field s 4))) r
+
+abbrev pub sumsAs : Command → List ℕ → LabelPosition → List ℤ
+sumsAs (Data c) t r = cond (isRead t) (sums (number (field (paramsOf t) 0)) (number (field (paramsOf t) 1)) r) []
+sumsAs (Line c) t r = sums (number (field (drop 2 t) 0)) (number (field (drop 2 t) 1)) r
+sumsAs Diagonal t r = cornerSums (drop 2 t) r
+sumsAs Box t r = cornerSums (drop 1 t) r
+sumsAs Clear t r = []
+sumsAs Reference t r = []
+sumsAs Print t r = []
+sumsAs Other t r = []
+
+abbrev pub sumsOf : LabelPosition → EplUnit → List ℤ
+sumsOf r (block bs h p) = sums (number (h .x)) (number (h .y)) r
+sumsOf r (line t) = sumsAs (commandOf (trim t)) (trim t) r
+sumsOf r (last t) = sumsAs (commandOf (trim t)) (trim t) r
+
+-- ---- the sizes among them, which no reference is added to: 19
+
+abbrev pub dataSizes : DataCommand → List ℕ → List ℤ
+dataSizes Text s = products (fieldOr (pos 1) (field s 3)) (sizeOr (pos 1) (field s 4)) (sizeOr (pos 1) (field s 5))
+dataSizes Barcode s = []
+dataSizes Barcode2d s = []
+
+abbrev pub cornerSizes : List ℕ → List ℤ
+cornerSizes s = differences (number (field s 0)) (number (field s 1)) (number (field s 3)) (number (field s 4))
+
+abbrev pub sizesAs : Command → List ℕ → List ℤ
+sizesAs (Data c) t = cond (isRead t) (dataSizes c (paramsOf t)) []
+sizesAs Diagonal t = cornerSizes (drop 2 t)
+sizesAs Box t = cornerSizes (drop 1 t)
+sizesAs (Line c) t = []
+sizesAs Clear t = []
+sizesAs Reference t = []
+sizesAs Print t = []
+sizesAs Other t = []
+
+abbrev pub sizesOf : EplUnit → List ℤ
+sizesOf (block bs h p) = []
+sizesOf (line t) = sizesAs (commandOf (trim t)) (trim t)
+sizesOf (last t) = sizesAs (commandOf (trim t)) (trim t)
+
+-- the number of a unit that has one outside at the reference r: "13 a sum with the reference", "19 a size .., directly
+-- after 13"
+pub data Beyond (r : LabelPosition) (u : EplUnit) : ℕ → Type 0 where
+  position : OneOut (sumsOf r u) → Beyond r u 13
+  size : AllFit (sumsOf r u) → OneOut (sizesOf u) → Beyond r u 19
+
+-- the same where positions and sizes have one number, 13
+abbrev pub Beyond13 : LabelPosition → EplUnit → ℕ → Type 0
+Beyond13 r u n = OneOut (numbersOf r u) × (n ≡ 13)
 
 -- "`R`: x, then everything after the first comma as y; without a comma y stays"
 abbrev pub yOf : List ℕ → ℤ → ℤ
@@ -121,7 +181,7 @@ refAfter r (last t) = refAs (commandOf (trim t)) (trim t) r
 -- every unit's numbers fit at the reference that stands there, "of dropped elements too"
 abbrev pub InRange : LabelPosition → List EplUnit → Type 0
 InRange r [] = Unit
-InRange r (u ∷ us) = AllFit (sizesOf r u) × InRange (refAfter r u) us
+InRange r (u ∷ us) = AllFit (numbersOf r u) × InRange (refAfter r u) us
 
 -- what a unit does: "an element that the unit yields becomes pending; `N` drops what is pending; a print line ..
 -- prints it"

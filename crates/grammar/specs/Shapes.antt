@@ -3,7 +3,6 @@
 use mathlib.Core.Path.{_≡_}
 use mathlib.Core.List.{List, [], _∷_}
 use Prim.Native.Nat.{ℕ}
-use lib.ListN.{take}
 use Rattle.text.specs.Ascii.{ascii}
 use Rattle.text.specs.Blank.{trim}
 use Rattle.text.specs.Fields.{field}
@@ -19,7 +18,7 @@ use Rattle.spelling.specs.declared.command.DataCommand.the-variants.{Text, Barc
 use Rattle.spelling.specs.Command.{commandOf}
 use Rattle.commands.specs.Line.{paramsOf}
 use Rattle.grammar.specs.Units.{EplUnit, block, line, last}
-use Rattle.grammar.specs.Ranges.{sizesOf}
+use Rattle.grammar.specs.Ranges.{sumsOf}
 
 -- "All others begin kind, x, y": an element's kind
 abbrev pub kindOf : LabelElement → ℕ
@@ -67,8 +66,7 @@ kindBy (block bs h p) = 0x04
 kindBy (line t) = kindAs (commandOf (trim t)) (trim t)
 kindBy (last t) = kindAs (commandOf (trim t)) (trim t)
 
--- the element e is of the kind that u's command has, and stands where the sums of u's numbers say, which are the
--- first two of `sizesOf`
+-- the element e is of the kind that u's command has, and stands where u's sums with the reference say
 pub record Shape (r : LabelPosition) (u : EplUnit) (e : LabelElement) : Type 0 where
   pub kind : kindOf e ≡ kindBy u
-  pub place : placeOf e .x ∷ placeOf e .y ∷ [] ≡ take 2 (sizesOf r u)
+  pub place : placeOf e .x ∷ placeOf e .y ∷ [] ≡ sumsOf r u

@@ -2,7 +2,7 @@
 use mathlib.Core.Path.{_≡_, refl, sym, ap, subst, _∙_}
 use mathlib.Core.Bool.{false}
 use mathlib.Core.List.{List, [], map}
-use mathlib.Core.Logic.{_↔_}
+use mathlib.Core.Logic.{_↔_, _⊎_, inl, inr}
 use Prim.Native.Nat.{ℕ, _≤_}
 use native.Mathlib.Omega.{arith}
 use lib.ListN.{length, take}
@@ -10,7 +10,7 @@ use Rattle.text.proofs.BlankWhiteLaws.{code-points-trim}
 use Rattle.texts.proofs.FontLaws.{width-exact}
 use Rattle.elements.specs.declared.LabelElement.{LabelElement}
 use Rattle.elements.specs.declared.refusal.Refusal.{Refusal}
-use Rattle.elements.specs.declared.refusal.Refusal.the-variants.{TextFields, BarcodeFields, Barcode2dFields, LineFields, DiagonalFields, BoxFields, BarcodeType, Barcode2dType, QrData, GraphicFields, GraphicNegative, GraphicTruncated, OutOfRange, InputTooLong, OutputTooShort, StateOutside}
+use Rattle.elements.specs.declared.refusal.Refusal.the-variants.{TextFields, BarcodeFields, Barcode2dFields, LineFields, DiagonalFields, BoxFields, BarcodeType, Barcode2dType, QrData, GraphicFields, GraphicNegative, GraphicTruncated, OutOfRange, InputTooLong, OutputTooShort, StateOutside, SizeOutside}
 use Rattle.elements.specs.Refusals.{numberOf}
 use Rattle.elements.specs.Walk.{fresh}
 use Rattle.element_frames.specs.Frame.{be32, head, frameOf}
@@ -33,17 +33,18 @@ use Rattle.grammar.specs.WellFormed.{wellFormed, faultOf}
 use Rattle.grammar.specs.Epl.{origin, epl}
 use Rattle.grammar.specs.Shapes.{kindOf, placeOf}
 use Rattle.grammar.specs.LineFaults.{LineFault}
+use Rattle.grammar.specs.Ranges.{Beyond, Beyond13}
 use Rattle.grammar.specs.Divided.{Earliest}
 use Rattle.grammar.specs.Normal.{normal, blocks, normalised}
 use Rattle.grammar.proofs.FoundLaws.{reads}
 use Rattle.grammar.proofs.SpelledLaws.{spelled}
-use Rattle.grammar.proofs.RangesLaws.{in-range, out-of-range}
+use Rattle.grammar.proofs.RangesLaws.{in-range, position-outside, size-outside, outside-numbers, out-of-range}
 use Rattle.grammar.proofs.ShapesLaws.{shape}
 use Rattle.grammar.proofs.NumberFieldLaws.{number-fields}
 use Rattle.grammar.proofs.DividedLabelsLaws.{in-range-labels, labels-in-range}
 use Rattle.grammar.proofs.LineFaultsLaws.{ill-has-fault, fault-is-ill}
 use Rattle.grammar.proofs.FaultsLaws.{faults}
-use Rattle.grammar.proofs.DividedEarliestLaws.{fails-earliest, one-earliest, divides-no-earliest}
+use Rattle.grammar.proofs.DividedEarliestLaws.{fails-earliest, one-earliest, divides-no-earliest, earliest-together, together-earliest}
 use Rattle.grammar.proofs.NormalLaws.{length-normalised-le, block-bytes, line-blocks}
 use Rattle.grammar.proofs.Normalises.{normalises}
 use Rattle.grammar.proofs.BecomesLaws.{becomes}
@@ -135,6 +136,7 @@ module _ (library : Library) where
     accepted-divides = divides;
     else-refused = λ none. refused (w .final) refl none;
     earliest = λ n p. (to-earliest n p, of-earliest n p);
+    covered = λ n p. ((λ x. subst (λ (k : ℕ). Earliest Beyond13 s 0 origin k p) (x .2) (earliest-together (to-earliest (x .0) p (x .1)))), λ e. let k = together-earliest e in (k .0, of-earliest (k .0) p (k .1), k .2));
     normalising = λ ls d. normalising-of s ls short d;
     lists-division = λ ls d l. calls.gives (dueOf s) l (library .list s l) (listingOf ls) (ap listingDue (outcome-is ∙ (λ i. ending (accepts s short ls d .0 i) (as-listed ls d i)))) (library .lists s l);
     lists-refusal = λ n p e l. denies (dueOf s) l (library .list s l) (ap listingDue (outcome-is ∙ ap (λ (f : Final). ending f (theory.answered epl (List ℕ) frameOf s [] (w .answers))) e)) (library .lists s l);
@@ -159,11 +161,11 @@ module _ (library : Library) where
       refused accepted e none = let d = divides e in absurd (none (d .0) (d .1))
       refused (refusal n p) e none = (n, p, e)
 
-      to-earliest : (n p : ℕ) → w .final ≡ refusal n p → Earliest s 0 origin n p
+      to-earliest : (n p : ℕ) → w .final ≡ refusal n p → Earliest Beyond s 0 origin n p
       to-earliest n p e = fails-earliest (List ℕ) frameOf (w .refused→fails n p e)
 
       -- there is one at most, and none where the end is reached
-      of-earliest : (n p : ℕ) → Earliest s 0 origin n p → w .final ≡ refusal n p
+      of-earliest : (n p : ℕ) → Earliest Beyond s 0 origin n p → w .final ≡ refusal n p
       of-earliest n p x = by (w .final) refl
         where
           by : (f : Final) → w .final ≡ f → f ≡ refusal n p
@@ -171,23 +173,24 @@ module _ (library : Library) where
           by (refusal m q) e = let o = one-earliest (to-earliest m q e) x in λ i. refusal (o .0 i) (o .1 i)
 
 -- ---- demand 1: the numbers of refusals
-numbered-of : (k : Refusal) → (1 ≤ numberOf k) × (numberOf k ≤ 16)
-numbered-of TextFields = (omega arith, omega arith)
-numbered-of BarcodeFields = (omega arith, omega arith)
-numbered-of Barcode2dFields = (omega arith, omega arith)
-numbered-of LineFields = (omega arith, omega arith)
-numbered-of DiagonalFields = (omega arith, omega arith)
-numbered-of BoxFields = (omega arith, omega arith)
-numbered-of BarcodeType = (omega arith, omega arith)
-numbered-of Barcode2dType = (omega arith, omega arith)
-numbered-of QrData = (omega arith, omega arith)
-numbered-of GraphicFields = (omega arith, omega arith)
-numbered-of GraphicNegative = (omega arith, omega arith)
-numbered-of GraphicTruncated = (omega arith, omega arith)
-numbered-of OutOfRange = (omega arith, omega arith)
-numbered-of InputTooLong = (omega arith, omega arith)
-numbered-of OutputTooShort = (omega arith, omega arith)
-numbered-of StateOutside = (omega arith, omega arith)
+numbered-of : (k : Refusal) → ((1 ≤ numberOf k) × (numberOf k ≤ 16)) ⊎ (numberOf k ≡ 19)
+numbered-of TextFields = inl (omega arith, omega arith)
+numbered-of BarcodeFields = inl (omega arith, omega arith)
+numbered-of Barcode2dFields = inl (omega arith, omega arith)
+numbered-of LineFields = inl (omega arith, omega arith)
+numbered-of DiagonalFields = inl (omega arith, omega arith)
+numbered-of BoxFields = inl (omega arith, omega arith)
+numbered-of BarcodeType = inl (omega arith, omega arith)
+numbered-of Barcode2dType = inl (omega arith, omega arith)
+numbered-of QrData = inl (omega arith, omega arith)
+numbered-of GraphicFields = inl (omega arith, omega arith)
+numbered-of GraphicNegative = inl (omega arith, omega arith)
+numbered-of GraphicTruncated = inl (omega arith, omega arith)
+numbered-of OutOfRange = inl (omega arith, omega arith)
+numbered-of InputTooLong = inl (omega arith, omega arith)
+numbered-of OutputTooShort = inl (omega arith, omega arith)
+numbered-of StateOutside = inl (omega arith, omega arith)
+numbered-of SizeOutside = inr refl
 
 -- ---- demand 2
 -- "All others begin kind, x, y"
@@ -220,6 +223,9 @@ claims library = record {
     line-faults = ill-lines;
     faults = faults;
     in-range = in-range;
+    position-outside = position-outside;
+    size-outside = size-outside;
+    outside-numbers = outside-numbers;
     out-of-range = out-of-range;
     shape = shape;
     begins = begins-of;

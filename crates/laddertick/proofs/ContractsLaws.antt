@@ -4,7 +4,7 @@
 use mathlib.Core.Path.{_≡_, sym, ap, subst, _∙_}
 use mathlib.Core.Bool.{Bool, true, false, cond, _||_}
 use mathlib.Core.List.{List, []}
-use mathlib.Core.Logic.{inl, inr}
+use mathlib.Core.Logic.{_⊎_, inl, inr}
 use Prim.Native.Nat.{ℕ, _≤_, _<_}
 use native.Mathlib.Omega.{arith}
 use lib.Dec.{ltb}
@@ -32,7 +32,7 @@ use Rattle.whole.proofs.EndLaws.{Says, says-step}
 use Rattle.whole.proofs.EndLaws as end
 use Rattle.grammar.specs.Epl.{epl}
 use Rattle.grammar.proofs.FoundLaws.{reads}
-use Rattle.grammar.proofs.RangesLaws.{outside-only}
+use Rattle.grammar.proofs.RangesLaws.{outside-numbers}
 use Rattle.grammar.proofs.FaultsLaws.{first-fault, fault-between}
 use Rattle.walk.specs.declared.answer.Answer.{Answer}
 use Rattle.walk.specs.declared.answer.Answer.the-variants.{Element, Clear, Print, End, Refused}
@@ -75,15 +75,19 @@ within-of s w short n = record {
   counted = test (ltb (w .place) (w .pending)) (λ e. absurd (n (inr (ltb-true _ _ e)))) (λ e. ltb-false _ _ e);
 }
 
--- 1 to 13
+-- 1 to 13, or 19
 abbrev Line : ℕ → Type 0
-Line n = (1 ≤ n) × (n ≤ 13)
+Line n = ((1 ≤ n) × (n ≤ 13)) ⊎ (n ≡ 19)
+
+refused-line : {n : ℕ} → (n ≡ 13) ⊎ (n ≡ 19) → Line n
+refused-line (inl e) = inl (omega arith, omega arith)
+refused-line (inr e) = inr e
 
 step-inside : (s : List ℕ) (st : State LabelPosition) → Within s st → Says Line (length s) (step epl s st)
 step-inside s st w =
     says-step epl reads Line
-    (λ t n e. let b = fault-between (first-fault t n e) in (b .0, omega (arith, b .1)))
-    (λ r u rest n x e. let o = outside-only r u rest x n e .0 in (omega arith, omega arith))
+    (λ t n e. let b = fault-between (first-fault t n e) in inl (b .0, omega (arith, b .1)))
+    (λ r u rest n x e. refused-line (outside-numbers r u rest x n e))
     s st w
 
 -- a string over the limit lists nothing
@@ -141,7 +145,7 @@ module _ (library : Library) where
   pub outside : (s : List ℕ) (w : WalkState) → length s ≤ longest → Outside s w → answerOf (library .step s w) ≡ theory.refused 16 (w .place) (stateOf w)
   outside s w short o = library .steps s w ∙ step-outside s w short o
 
-  pub inside : (s : List ℕ) (w : WalkState) → length s ≤ longest → (Outside s w → ⊥) → (k : Refusal) (p : ℕ) (w′ : WalkState) → library .step s w ≡ Refused w′ k p → (1 ≤ numberOf k) × (numberOf k ≤ 13)
+  pub inside : (s : List ℕ) (w : WalkState) → length s ≤ longest → (Outside s w → ⊥) → (k : Refusal) (p : ℕ) (w′ : WalkState) → library .step s w ≡ Refused w′ k p → Line (numberOf k)
   inside s w short n k p w′ h = subst (Says Line (length s)) (answers-as s w h) (step-inside s (stateOf w) (within-of s w short n))
 
   pub ended-again : (s : List ℕ) (w w′ : WalkState) → library .step s w ≡ End w′ → library .step s w′ ≡ End w′

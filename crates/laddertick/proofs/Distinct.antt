@@ -10,7 +10,7 @@ use Rattle.parameters.specs.Position.{placed}
 use Rattle.parameters.specs.Rotation.{rotationOf}
 use Rattle.texts.specs.Font.{cellOf, widthOf, fontOf}
 use Rattle.texts.specs.Text.{textFields, textElement, textReading}
-use Rattle.draws.specs.Draw.{lineFields, lineElement, lineReading, cornersAt, drawnAt, diagonalReading, boxReading}
+use Rattle.draws.specs.Draw.{lineFields, lineElement, lineReading, cornersAt, sizedAt, drawnAt, diagonalReading, boxReading}
 use Rattle.barcodes.specs.Barcode.{symbologyOf, barcodeFields, code128, interleaved, code39, ean13, ean8, upcA, upcE, barcodeAt, barcodeReading}
 use Rattle.barcodes.specs.Ratio.{ratioOf}
 use Rattle.barcodes_2d.specs.Barcode2d as two
@@ -32,6 +32,6 @@ use Rattle.laddertick.specs.Distinct.{table}
 
 -- a proof for each row, in the table's order
 pub distinct : Holds table
-unfolding flatten toBits ofBits ofInt mul div lt before after beforeLast fields withoutTrailingCommas need low high numberSpelled sizeOr pointOf exactly placed rotationOf cellOf widthOf fontOf textFields textElement textReading lineFields lineElement lineReading cornersAt drawnAt diagonalReading boxReading symbologyOf two.symbologyOf barcodeFields code128 interleaved code39 ean13 ean8 upcA upcE barcodeAt barcodeReading ratioOf aztecSize aztecOf datamatrixOf modeOf pdf417ModuleWidth pdf417RowHeight pdf417Truncate pdf417Of qrOf levelOf aztecReading datamatrixReading maxicodeReading pdf417Reading qrReading barcode2dReading headerAt headerPlace postal autoMode optionsOf lastCount lastNumber lastClamped opensGw closes afterHeaderField headerNumber fourClosed payloadOf gwNumbers measured gwSpan isReference isPrint commandOf referenceOf paramsOf quotedReading readLine flush handing answer step trace first wellFormed faultOf be32 head extentBytes barBytes rowBytes fieldBytes frameOf
+unfolding flatten toBits ofBits ofInt mul div lt before after beforeLast fields withoutTrailingCommas need low high numberSpelled sizeOr pointOf exactly placed rotationOf cellOf widthOf fontOf textFields textElement textReading lineFields lineElement lineReading cornersAt sizedAt drawnAt diagonalReading boxReading symbologyOf two.symbologyOf barcodeFields code128 interleaved code39 ean13 ean8 upcA upcE barcodeAt barcodeReading ratioOf aztecSize aztecOf datamatrixOf modeOf pdf417ModuleWidth pdf417RowHeight pdf417Truncate pdf417Of qrOf levelOf aztecReading datamatrixReading maxicodeReading pdf417Reading qrReading barcode2dReading headerAt headerPlace postal autoMode optionsOf lastCount lastNumber lastClamped opensGw closes afterHeaderField headerNumber fourClosed payloadOf gwNumbers measured gwSpan isReference isPrint commandOf referenceOf paramsOf quotedReading readLine flush handing answer step trace first wellFormed faultOf be32 head extentBytes barBytes rowBytes fieldBytes frameOf
 distinct =
-    (refl, (refl, (refl, (refl, (refl, (refl, (refl, (refl, (refl, (refl, (refl, (refl, (refl, (refl, (refl, (refl, (refl, (refl, (refl, (refl, (refl, (refl, (refl, (refl, (refl, (refl, (refl, (refl, (refl, (refl, (refl, (refl, (refl, (refl, (refl, (refl, (refl, (refl, (refl, (refl, (refl, (refl, (refl, (refl, (refl, (refl, (refl, (refl, (refl, (refl, (refl, (refl, (refl, (refl, (refl, (refl, (refl, (refl, (refl, (refl, (refl, (refl, (refl, (refl, (refl, (refl, (refl, (refl, (refl, tt)))))))))))))))))))))))))))))))))))))))))))))))))))))))))))))))))))))
+    (refl, (refl, (refl, (refl, (refl, (refl, (refl, (refl, (refl, (refl, (refl, (refl, (refl, (refl, (refl, (refl, (refl, (refl, (refl, (refl, (refl, (refl, (refl, (refl, (refl, (refl, (refl, (refl, (refl, (refl, (refl, (refl, (refl, (refl, (refl, (refl, (refl, (refl, (refl, (refl, (refl, (refl, (refl, (refl, (refl, (refl, (refl, (refl, (refl, (refl, (refl, (refl, (refl, (refl, (refl, (refl, (refl, (refl, (refl, (refl, (refl, (refl, (refl, (refl, (refl, (refl, (refl, (refl, (refl, (refl, (refl, (refl, (refl, (refl, (refl, (refl, (refl, tt)))))))))))))))))))))))))))))))))))))))))))))))))))))))))))))))))))))))))))))

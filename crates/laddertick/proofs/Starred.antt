@@ -10,7 +10,7 @@ use Rattle.parameters.specs.Rotation.{rotationOf}
 use Rattle.texts.specs.Font.{cellOf, fontOf}
 use Rattle.texts.specs.Text.{textFields, textElement, textReading}
 use Rattle.texts.proofs.FontLaws.{width-exact}
-use Rattle.draws.specs.Draw.{lineFields, lineElement, lineReading, cornersAt, drawnAt, diagonalReading, boxReading}
+use Rattle.draws.specs.Draw.{lineFields, lineElement, lineReading, cornersAt, sizedAt, drawnAt, diagonalReading, boxReading}
 use Rattle.graphics.specs.Block.{opensGw, closes, afterHeaderField, headerNumber, fourClosed, payloadOf, gwNumbers, measured, gwSpan}
 use Rattle.spelling.specs.Command.{isReference, isPrint, commandOf}
 use Rattle.spelling.specs.Reference.{referenceOf}
@@ -26,6 +26,6 @@ use Rattle.laddertick.specs.Starred.{table}
 
 -- a proof for each row, in the table's order
 pub starred : Holds table
-unfolding before after beforeLast fields withoutTrailingCommas numberSpelled sizeOr pointOf exactly placed rotationOf isReference isPrint commandOf referenceOf cellOf fontOf textFields textElement textReading lineFields lineElement lineReading cornersAt drawnAt diagonalReading boxReading paramsOf quotedReading readLine opensGw closes afterHeaderField headerNumber fourClosed payloadOf gwNumbers measured gwSpan handing answer step wellFormed faultOf first chunk normalised trace be32 head extentBytes fieldBytes frameOf
+unfolding before after beforeLast fields withoutTrailingCommas numberSpelled sizeOr pointOf exactly placed rotationOf isReference isPrint commandOf referenceOf cellOf fontOf textFields textElement textReading lineFields lineElement lineReading cornersAt sizedAt drawnAt diagonalReading boxReading paramsOf quotedReading readLine opensGw closes afterHeaderField headerNumber fourClosed payloadOf gwNumbers measured gwSpan handing answer step wellFormed faultOf first chunk normalised trace be32 head extentBytes fieldBytes frameOf
 starred =
     (refl, (refl, (refl, (refl, (refl, (refl, (refl, (refl, (refl, (refl, (rw (width-exact 12 16 (lit< tt) (lit< tt) (lit< tt)), (refl, (refl, (refl, (refl, (refl, (refl, (refl, (refl, (refl, (refl, (refl, (refl, (refl, (refl, (refl, (refl, tt)))))))))))))))))))))))))))

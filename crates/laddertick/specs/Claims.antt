@@ -4,7 +4,7 @@
 use mathlib.Core.Path.{_≡_}
 use mathlib.Core.Bool.{true, false}
 use mathlib.Core.List.{List, [], _∷_, _++_}
-use mathlib.Core.Logic.{_↔_}
+use mathlib.Core.Logic.{_↔_, _⊎_}
 use Prim.Native.Nat.{ℕ, _+_, _*_, _/_, _^_, _≤_, _<_}
 use lib.IntN.{ℤ, pos}
 use lib.Ieee.{binary64, ofInt}
@@ -17,7 +17,7 @@ use Rattle.elements.specs.declared.filled.Filled.the-variants as filled
 use Rattle.elements.specs.declared.LabelElement.{LabelElement}
 use Rattle.elements.specs.declared.LabelPosition.{LabelPosition}
 use Rattle.elements.specs.declared.refusal.Refusal.{Refusal}
-use Rattle.elements.specs.declared.refusal.Refusal.the-variants.{OutOfRange}
+use Rattle.elements.specs.declared.refusal.Refusal.the-variants.{OutOfRange, SizeOutside}
 use Rattle.elements.specs.declared.walk_state.WalkState.{WalkState}
 use Rattle.elements.specs.Refusals.{numberOf}
 use Rattle.elements.specs.Spans.{In}
@@ -41,12 +41,13 @@ use Rattle.grammar.specs.Units.{Header, EplUnit, block, line, last, Stands}
 use Rattle.grammar.specs.Found.{first}
 use Rattle.grammar.specs.Epl.{origin, acts, epl}
 use Rattle.grammar.specs.Spelled.{Spells}
-use Rattle.grammar.specs.Ranges.{AllFit, OneOut, sizesOf, refAfter, InRange, roleOf, Does}
+use Rattle.grammar.specs.Ranges.{AllFit, OneOut, numbersOf, sumsOf, sizesOf, Beyond, Beyond13}
+use Rattle.grammar.specs.Ranges.{refAfter, InRange, roleOf, Does}
 use Rattle.grammar.specs.Shapes.{kindOf, placeOf, Shape}
 use Rattle.grammar.specs.NumberField.{NumberField}
 use Rattle.grammar.specs.LineFaults.{LineFault}
 use Rattle.grammar.specs.Faults.{Fault}
-use Rattle.grammar.specs.Divided.{labelsBy, Earliest}
+use Rattle.grammar.specs.Divided.{labelsBy, Earliest, together}
 use Rattle.grammar.specs.Becomes.{Becomes}
 use Rattle.grammar.specs.Normal.{blocks, normalised}
 use Rattle.walk.specs.declared.answer.Answer.{Answer}
@@ -94,16 +95,16 @@ pub record Demand1 (library : Library) : Type 0 where
   -- whatever the string says
   pub outside : (s : List ℕ) (w : WalkState) → length s ≤ longest → Outside s w
       → answerOf (library .step s w) ≡ refused 16 (w .place) (stateOf w)
-  -- ".. then the earliest refused line": from any other state a refusal is one of 1 to 13
+  -- ".. then the earliest refused line": from any other state a refusal is one of 1 to 13, or 19
   pub inside : (s : List ℕ) (w : WalkState) → length s ≤ longest → (Outside s w → ⊥)
       → (k : Refusal) (p : ℕ) (w′ : WalkState) → library .step s w ≡ Refused w′ k p
-      → (1 ≤ numberOf k) × (numberOf k ≤ 13)
+      → ((1 ≤ numberOf k) × (numberOf k ≤ 13)) ⊎ (numberOf k ≡ 19)
   -- "then the end is answered, again and again", with the same state
   pub ended-again : (s : List ℕ) (w w′ : WalkState) → library .step s w ≡ End w′ → library .step s w′ ≡ End w′
   -- the data that a step answers lies within the input, so that a host which reads it stays inside what it lent
   pub data-inside : (s : List ℕ) (w w′ : WalkState) (e : LabelElement) → library .step s w ≡ Element w′ e
       → In (length s) e
-  pub numbered : (k : Refusal) → (1 ≤ numberOf k) × (numberOf k ≤ 16)
+  pub numbered : (k : Refusal) → ((1 ≤ numberOf k) × (numberOf k ≤ 16)) ⊎ (numberOf k ≡ 19)
 
 -- demand 2: the command forms, from 01's words. The definitions that the code's readers are proved equal to
 -- (`commandOf`, `wellFormed`, `first`, `acts`, `fieldOr`) say the same
@@ -112,11 +113,20 @@ pub record Demand2 : Type 0 where
   pub spelled : (t : List ℕ) (c : Command) → (commandOf t ≡ c) ↔ Spells c t
   pub line-faults : (t : List ℕ) (n : ℕ) → ((wellFormed t ≡ false) × (faultOf t ≡ n)) ↔ LineFault t n
   pub faults : (s : List ℕ) (n : ℕ) → (first s ≡ bad n) ↔ Fault s n
-  -- a unit that stands does what its command says where its numbers fit at the reference, and is 13 where one does not
-  pub in-range : (r : LabelPosition) (u : EplUnit) (rest : List ℕ) → Stands u rest → AllFit (sizesOf r u)
+  -- a unit that stands does what its command says where its numbers fit at the reference
+  pub in-range : (r : LabelPosition) (u : EplUnit) (rest : List ℕ) → Stands u rest → AllFit (numbersOf r u)
       → Does (roleOf u) r (refAfter r u) (acts r u)
-  pub out-of-range : (r : LabelPosition) (u : EplUnit) (rest : List ℕ) → Stands u rest → OneOut (sizesOf r u)
-      → acts r u ≡ outside 13
+  -- it is 13 exactly where a sum with the reference does not fit, 19 exactly where they do and a size does not ("the
+  -- position comes first"), and no other number
+  pub position-outside : (r : LabelPosition) (u : EplUnit) (rest : List ℕ) → Stands u rest
+      → (acts r u ≡ outside 13) ↔ OneOut (sumsOf r u)
+  pub size-outside : (r : LabelPosition) (u : EplUnit) (rest : List ℕ) → Stands u rest
+      → (acts r u ≡ outside 19) ↔ (AllFit (sumsOf r u) × OneOut (sizesOf u))
+  pub outside-numbers : (r : LabelPosition) (u : EplUnit) (rest : List ℕ) → Stands u rest → (n : ℕ)
+      → acts r u ≡ outside n → (n ≡ 13) ⊎ (n ≡ 19)
+  -- "13 and 19 together cover what 13 covered": one of all the numbers does not fit
+  pub out-of-range : (r : LabelPosition) (u : EplUnit) (rest : List ℕ) → Stands u rest
+      → ((acts r u ≡ outside 13) ⊎ (acts r u ≡ outside 19)) ↔ OneOut (numbersOf r u)
   -- what it yields is of the kind that its command and type have, and stands where the sums say; a frame begins so
   pub shape : (r : LabelPosition) (u : EplUnit) (rest : List ℕ) (e : LabelElement) → Stands u rest → acts r u ≡ yield e
       → Shape r u e
@@ -124,11 +134,11 @@ pub record Demand2 : Type 0 where
   -- "A number field .."
   pub numbers : (d : ℤ) (f : List ℕ) (z : ℤ) → (fieldOr d f ≡ z) ↔ NumberField d f z
   -- the reader of a line refuses 1 to 9 exactly where the line is not well formed, with 01's number; a well-formed one
-  -- it refuses only as 13
+  -- it refuses only as 13 or 19
   pub ill-formed : (t : List ℕ) (r : LabelPosition) → wellFormed (trim t) ≡ false
       → (n : Refusal) × (readLine t r ≡ reading.Refused n) × (numberOf n ≡ faultOf (trim t))
   pub well-formed : (t : List ℕ) (r : LabelPosition) (n : Refusal) → wellFormed (trim t) ≡ true
-      → readLine t r ≡ reading.Refused n → n ≡ OutOfRange
+      → readLine t r ≡ reading.Refused n → (n ≡ OutOfRange) ⊎ (n ≡ SizeOutside)
   -- "`LE` is read as `LO` is, with colour flag 2", whatever blanks stand around either
   pub exclusive-or : (t u v : List ℕ) (r : LabelPosition) → trim t ≡ spelt "LO" v → trim u ≡ spelt "LE" v
       → Coloured 2 (readLine t r) (readLine u r)
@@ -182,7 +192,10 @@ pub record Demand3 (library : Library) (s : List ℕ) : Type 0 where
   -- "otherwise the steps reach a refusal"
   pub else-refused : ((ls : List FramedLabel) → Divides s ls → ⊥) → (n : ℕ) × (p : ℕ) × (final ≡ refusal n p)
   -- of the earliest refused unit: at fault as it stands, or with a number outside 32 bits
-  pub earliest : (n p : ℕ) → (final ≡ refusal n p) ↔ Earliest s 0 origin n p
+  pub earliest : (n p : ℕ) → (final ≡ refusal n p) ↔ Earliest Beyond s 0 origin n p
+  -- "Files accepted are the same" with one number for positions and sizes: `accepted-exactly` speaks of all of them.
+  -- "13 and 19 together cover what 13 covered", at the same place, and every other refusal is the same
+  pub covered : (n p : ℕ) → ((m : ℕ) × (final ≡ refusal m p) × (together m ≡ n)) ↔ Earliest Beyond13 s 0 origin n p
   pub normalising : (ls : List FramedLabel) → Divides s ls → Normalising library s ls
   -- `list` writes the listing of the division's labels, and 15 comes last; or it refuses as the walk does, whatever the
   -- buffer

@@ -126,4 +126,15 @@ table =
         "0000000001\n02 7fffffff 80000000 00000001 00000001 00000001 00\n"
     -- "4 `LO`/`LW`/`LE`, .. with too few fields"
     ∷ case "LEFT JAR" (refused 4 0 fresh ∷ [])
+    -- "13 a sum with the reference": of x, of y
+    ∷ case "R1\nLO2147483647,0,1,1" (refused 13 3 fresh ∷ [])
+    ∷ case "R0,-1\nLS0,-2147483648,1,5,5" (refused 13 6 fresh ∷ [])
+    -- "19 a size": a difference, an absolute value, a font's height, its width
+    ∷ case "X-1,0,1,2147483647,0" (refused 19 0 fresh ∷ [])
+    ∷ case "LS0,0,1,0,-2147483648" (refused 19 0 fresh ∷ [])
+    ∷ case "A0,0,0,1,1,178956971,N,\"x\"" (refused 19 0 fresh ∷ [])
+    ∷ case "A0,0,0,1,268435456,1,N,\"x\"" (refused 19 0 fresh ∷ [])
+    -- "Where a line has both faults, the position comes first"
+    ∷ case "R0,-2147483648\nX2147483647,-1,1,-1,-1" (refused 13 15 fresh ∷ [])
+    ∷ case "R1\nA2147483647,0,0,1,1,178956971,N,\"x\"" (refused 13 3 fresh ∷ [])
     ∷ []

@@ -86,8 +86,8 @@ table =
     -- "`LS5,5,1,5,5`: direction 1." "`LS0,0,1,9,0`: direction 0."
     ∷ case "LS5,5,1,5,5" (alone 11 (diagonal (point 5 5) 0 0 true))
     ∷ case "LS0,0,1,9,0" (alone 11 (diagonal origin 9 0 false))
-    -- "`X2147483647,0,1,-1,0`: refused 13. `X2147483646,0,1,-1,0`: accepted, x −1, width 2147483647."
-    ∷ case "X2147483647,0,1,-1,0" (refused 13 0 fresh ∷ [])
+    -- "The starred `X2147483647,0,1,-1,0` becomes 19." "`X2147483646,0,1,-1,0`: accepted, x −1, width 2147483647."
+    ∷ case "X2147483647,0,1,-1,0" (refused 19 0 fresh ∷ [])
     ∷ case "X2147483646,0,1,-1,0" (alone 20 (box (record { x = negsuc 0; y = pos 0 }) 2147483647 0 1))
     -- "`B0,0,0,1D,2,2,9,B,"x"`: refused 7."
     ∷ case "B0,0,0,1D,2,2,9,B,\"x\"" (refused 7 0 fresh ∷ [])

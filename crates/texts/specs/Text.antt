@@ -16,12 +16,13 @@ use Rattle.elements.specs.declared.refusal.Refusal.the-variants as refusal
 use Rattle.texts.specs.declared.fonts.Scaled.{Scaled}
 use Rattle.texts.specs.declared.fonts.Scaled.the-variants as scaled
 use Rattle.parameters.specs.declared.position.Placed.{Placed}
+use Rattle.parameters.specs.declared.position.Placed.the-variants as placing
 use Rattle.parameters.specs.declared.reading.LineReading.{LineReading}
 use Rattle.parameters.specs.declared.reading.LineReading.the-variants as reading
 use Rattle.texts.specs.declared.epl_text.TextFields.{TextFields}
 use Rattle.texts.specs.Font.{fontOf}
 use Rattle.parameters.specs.FieldValues.{sizeOr, pointOf, exactly}
-use Rattle.parameters.specs.Position.{placed, yields}
+use Rattle.parameters.specs.Position.{placed}
 
 -- the seven fields; defaults: font 1, multipliers 1
 unfoldable pub textFields : List ℕ → TextFields
@@ -38,16 +39,18 @@ textFields s =
           };
     }
 
--- the text in its font at its position, or 13
-abbrev pub textOf : TextFields → DataSpan → Scaled → Placed → LineReading
-textOf f d (scaled.Font i) p =
-    yields p λ at. element.Text (record { position = at; «reverse_print» = f .scale .reverse; font = i; text = d })
-textOf f d scaled.Outside p = reading.Refused refusal.OutOfRange
+-- the text at its position in its font; 13 where it has no position, "directly after 13" 19 where it has no font
+abbrev pub textOf : TextFields → DataSpan → Placed → Scaled → LineReading
+textOf f d (placing.At at) (scaled.Font i) =
+    reading.Element
+    (element.Text (record { position = at; «reverse_print» = f .scale .reverse; font = i; text = d }))
+textOf f d (placing.At at) scaled.Outside = reading.Refused refusal.SizeOutside
+textOf f d placing.Outside i = reading.Refused refusal.OutOfRange
 
 unfoldable pub textElement : TextFields → DataSpan → LabelPosition → LineReading
 textElement f d r =
-    textOf f d (fontOf (f .font) (f .scale .«h_mult») (f .scale .«v_mult») (f .rotation))
-    (placed (f .at .x) (f .at .y) r)
+    textOf f d (placed (f .at .x) (f .at .y) r)
+    (fontOf (f .font) (f .scale .«h_mult») (f .scale .«v_mult») (f .rotation))
 
 -- "number at least 7", or 1
 unfoldable pub textReading : List ℕ → DataSpan → LabelPosition → LineReading

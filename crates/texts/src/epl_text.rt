@@ -30,7 +30,7 @@ pub struct TextFields {
     pub scale: Scale,
 }
 
-// The text at a reference, or 13.
+// The text at a reference: 13, then 19.
 pub(crate) fn text_element(f: TextFields, span: DataSpan, reference: LabelPosition) -> LineReading
     ensures { λ r. ⌜ r ≡ textElement f span reference ⌝ }
 {
@@ -40,7 +40,7 @@ pub(crate) fn text_element(f: TextFields, span: DataSpan, reference: LabelPositi
         return LineReading::Refused(Refusal::OutOfRange);
     };
     let Scaled::Font(font) = font_info(f.font, scale.h_mult, scale.v_mult, f.rotation) else {
-        return LineReading::Refused(Refusal::OutOfRange);
+        return LineReading::Refused(Refusal::SizeOutside);
     };
     LineReading::Element(LabelElement::Text(TextField {
         position,

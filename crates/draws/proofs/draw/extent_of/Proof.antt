@@ -48,20 +48,15 @@ returns-2 c =
     let p = c .before .before in
     simp (known-d (p .before), sym (distance p) ∙ c .enum-told2 .given .1)
 
-min-requires : tie.Need-min-requires
-min-requires c κs = search needs
-
 returns-3 : tie.Need-returns-3
 unfolding extentOf
 returns-3 c =
-    let size = c .before .before .size .given in
-    let p = c .before .before .before .before in
+    let size = c .before .size .given in
+    let p = c .before .before .before in
     let k = p .before in
     let d = k .before .d .given .0 .0 in
-    let s = k .before .before .before .before in
-    let m = c .min in
-    rw (back32 (m .result) (m .ok), back32 (size .0 .0) (c .before .known-told2 .given .0 .1), back32 d (k .known-told .given .0 .1))
-    (simp (simp (toZ-ofZ (s .fits .a), toZ-ofZ (s .fits .b)) at (m .ensures), known-d k, sym (distance p) ∙ size .1))
+    rw (back32 (size .0 .0) (c .known-told2 .given .0 .1), back32 d (k .known-told .given .0 .1))
+    (simp (known-d k, sym (distance p) ∙ size .1))
 
 pub extent-of-spec : {M : Type 1} → statement M
 extent-of-spec =
@@ -75,5 +70,4 @@ extent-of-spec =
     enum-known-size
     enum-told-2
     returns-2
-    min-requires
     returns-3)

@@ -1,25 +1,14 @@
--- `texts::epl_text::text_element` meets its contract: its position and its font decide, and 13 is the answer where
--- either has none.
+-- `texts::epl_text::text_element` meets its contract: its position decides, and then its font.
 -- Assumes nothing.
-use mathlib.Core.Path.{_≡_, refl, sym, _∙_}
+use mathlib.Core.Path.{_≡_, sym, _∙_}
 use Rattle.numbers.proofs.IntLaws.{back32}
-use Rattle.elements.specs.declared.DataSpan.{DataSpan}
-use Rattle.elements.specs.declared.refusal.Refusal.the-variants.{OutOfRange}
-use Rattle.parameters.specs.declared.position.Placed.the-variants as placing
-use Rattle.parameters.specs.declared.reading.LineReading.the-variants.{Refused}
+use Rattle.parameters.specs.declared.position.Placed.the-variants.{At}
 use Rattle.parameters.specs.Position.{placed}
-use Rattle.texts.specs.declared.epl_text.TextFields.{TextFields}
-use Rattle.texts.specs.declared.fonts.Scaled.{Scaled}
-use Rattle.texts.specs.declared.fonts.Scaled.the-variants as scaled
 use Rattle.texts.specs.Font.{fontOf}
-use Rattle.texts.specs.Text.{textOf, textElement}
+use Rattle.texts.specs.Text.{textElement}
 use borrow.Author.Needs.{needs}
 use Rattle.texts.proofs.epl_text.text_element.Statement.{statement}
 use Rattle.texts.proofs.epl_text.text_element.Tie as tie
-
-text-outside : (f : TextFields) (d : DataSpan) (i : Scaled) → textOf f d i placing.Outside ≡ Refused OutOfRange
-text-outside f d (scaled.Font i) = refl
-text-outside f d scaled.Outside = refl
 
 abbrev start : tie.After-place → tie.Start
 start d = d .before .before .before .before .before
@@ -31,6 +20,10 @@ stands d =
 
 abbrev at-place : tie.After-font-info → tie.After-place
 at-place d = d .before .before .before .before .before .before .before .before
+
+-- the position that was known when the font was asked for
+known : (d : tie.After-font-info) → let s = start (at-place d) .args in placed (s .f .at .x) (s .f .at .y) (s .reference) ≡ At (d .before .before .before .before .before .before .position .given .0 .0)
+known d = sym (stands (at-place d)) ∙ d .before .before .before .before .before .before .position .given .1
 
 looks : (d : tie.After-font-info) → let f = start (at-place d) .args .f in d .font-info .result ≡ fontOf (f .font) (f .scale .«h_mult») (f .scale .«v_mult») (f .rotation)
 looks d =
@@ -54,7 +47,7 @@ enum-told c = search needs
 
 returns : tie.Need-returns
 unfolding textElement
-returns c = simp (sym (stands (c .before .before)) ∙ c .enum-told .given .1, text-outside)
+returns c = simp (sym (stands (c .before .before)) ∙ c .enum-told .given .1)
 
 font-info-requires : tie.Need-font-info-requires
 font-info-requires c κs = search needs
@@ -67,14 +60,15 @@ enum-told-2 c = search needs
 
 returns-2 : tie.Need-returns-2
 unfolding textElement
-returns-2 c = simp (sym (looks (c .before .before)) ∙ c .enum-told2 .given .1)
+returns-2 c =
+    let i = c .before .before in
+    simp (known i, sym (looks i) ∙ c .enum-told2 .given .1)
 
 returns-3 : tie.Need-returns-3
 unfolding textElement
 returns-3 c =
     let i = c .before .before .before in
-    let p = at-place i in
-    simp (sym (looks i) ∙ c .before .font .given .1, sym (stands p) ∙ i .before .before .before .before .before .before .position .given .1)
+    simp (known i, sym (looks i) ∙ c .before .font .given .1)
 
 pub text-element-spec : {M : Type 1} → statement M
 text-element-spec =
