@@ -9,8 +9,8 @@ ghost use Rattle.numbers.specs.Number.{numberOr};
 ghost use Rattle.barcodes_2d.specs.Options.{clamped, clampedOr, optionsOf};
 ghost use Rattle.barcodes_2d.specs.OptionSteps.{cap, ValueAt, numberOver, levelOver, taken};
 ghost use Rattle.barcodes_2d.specs.OptionSteps.{noOptions, allTaken, numberOf};
-use bytes::class::is_digit;
-use bytes::class::is_letter;
+use classes::class::is_digit;
+use classes::class::is_letter;
 use numbers::int::max;
 use numbers::int::min;
 use numbers::number::Number;
@@ -28,7 +28,9 @@ pub enum Wanted {
 // What a value held, in one number, which the compiler keeps in a register: a value has no sign, so that all from 2^31
 // on are free for the answers that are no value.
 pub const BEYOND: u32 = 2147483648;
+
 pub const NO_NUMBER: u32 = 2147483649;
+
 pub const EMPTY: u32 = 2147483650;
 
 // The answer of the number reader that n stands for.

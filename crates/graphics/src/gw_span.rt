@@ -6,6 +6,7 @@ ghost use Prim.Native.Nat.{_+_, _<_, _≤_};
 ghost use lib.ListN.{length};
 ghost use Rattle.text.specs.Blank.{dropWhile};
 ghost use Rattle.graphics.specs.Block.{isLineBlank, opensGw, inField, measured, gwSpan, graphicAt, blockReading, laterBlock, FieldLen, HeaderRead};
+use classes::class::is_ascii_blank;
 use elements::DataSpan;
 use elements::GraphicField;
 use elements::LabelElement;
@@ -20,7 +21,7 @@ use parameters::position::place;
 pub(crate) fn is_line_blank(b: u8) -> bool
     ensures { λ r. ⌜ r ≡ isLineBlank b ⌝ }
 {
-    (b == 0x20) | (b == 0x09) | (b == 0x0c) | (b == 0x0d)
+    is_ascii_blank(b) & (b != 10)
 }
 
 // s without the ASCII blanks before its first other byte or LF.

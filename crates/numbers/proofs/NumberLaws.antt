@@ -1,7 +1,7 @@
 -- Numbers from digits: one turn of the loop over them, the sign, and what `digits` answers.
 -- Assumes nothing.
 use mathlib.Core.Path.{_≡_, refl, ap}
-use mathlib.Core.Bool.{Bool, true, false, cond}
+use mathlib.Core.Bool.{Bool, true, false, cond, true≢false}
 use mathlib.Core.List.{List, [], _∷_}
 use mathlib.Core.Option.{Option, none, some}
 use Prim.Native.Nat.{ℕ, zero, suc, _+_, _-_, _*_, _<_, _≤_, min}
@@ -15,7 +15,8 @@ use lib.IntN.{pos, negsuc, negℤ, _-ℤ_}
 use lib.Signed.{mag}
 use borrow.Author.Tests.{le-leb, lt-leb, lt-ltb, le-ltb, leb-true, leb-false}
 use Rattle.text.specs.Class.{isDigit}
-use Rattle.text.proofs.BoolLaws.{test}
+use Rattle.classes.specs.Classes.{isSign}
+use Rattle.text.proofs.BoolLaws.{test, or-cases}
 use Rattle.numbers.specs.Number.{valueFrom, digitsOf, capped, ranged, signed, numberSpelled}
 use Rattle.numbers.specs.declared.number.Number.the-variants.{Value, Empty, NoNumber, Beyond}
 use Rattle.numbers.specs.declared.number.Magnitude.the-variants.{Upto, Over, Bad}
@@ -47,15 +48,11 @@ no-digits [] h = refl
 no-digits (x ∷ xs) h = absurd (omega arith)
 
 module _ (s : List ℕ) (i v : ℕ) (h : i < length s) where
-  pub too-low : getD s i 0 < 48 → valueFrom v (drop i s) ≡ none
-  too-low p = rw (drop-cons s i 0) (simp (lt-leb 48 (getD s i 0) p))
+  pub no-digit : isDigit (getD s i 0) ≡ false → valueFrom v (drop i s) ≡ none
+  no-digit e = rw (drop-cons s i 0) (simp e)
 
-  pub too-high : 57 < getD s i 0 → valueFrom v (drop i s) ≡ none
-  too-high p = rw (drop-cons s i 0) (simp (lt-leb (getD s i 0) 57 p, le-leb 48 (getD s i 0) (omega arith)))
-
-  module _ (p : 48 ≤ getD s i 0) (q : getD s i 0 ≤ 57) where
-    pub one-more : valueFrom v (drop i s) ≡ valueFrom (v * 10 + (getD s i 0 - 48)) (drop (i + 1) s)
-    one-more = rw (add-one, drop-cons s i 0) (simp (le-leb 48 (getD s i 0) p, le-leb (getD s i 0) 57 q))
+  pub one-more : isDigit (getD s i 0) ≡ true → valueFrom v (drop i s) ≡ valueFrom (v * 10 + (getD s i 0 - 48)) (drop (i + 1) s)
+  one-more e = rw (add-one, drop-cons s i 0) (simp e)
 
 pub all-read : (s : List ℕ) (i v : ℕ) → length s ≤ i → v ≤ 2147483648 → capped (valueFrom v (drop i s)) ≡ Upto v
 all-read s i v h l = rw (drop-of-length-le s) (simp (le-leb v 2147483648 l))
@@ -113,7 +110,16 @@ unfolding numberSpelled
 number-none [] h = refl
 number-none (x ∷ xs) h = absurd (omega arith)
 
-pub number-some : (s : List ℕ) → 0 < length s → numberSpelled s ≡ cond (eqb (getD s 0 0) 45) (signed true (digitsOf (drop 1 s))) (cond (eqb (getD s 0 0) 43) (signed false (digitsOf (drop 1 s))) (signed false (digitsOf s)))
+pub number-sign : (s : List ℕ) → 0 < length s → isSign (getD s 0 0) ≡ true → numberSpelled s ≡ signed (eqb (getD s 0 0) 45) (digitsOf (drop 1 s))
 unfolding numberSpelled
-number-some [] h = absurd (not-suc-le-zero h)
-number-some (x ∷ xs) h = refl
+number-sign [] h e = absurd (not-suc-le-zero h)
+number-sign (x ∷ xs) h e =
+    or-cases (eqb x 43) (eqb x 45) (λ p. test (eqb x 45) (λ q. simp q) (λ q. simp (p, q))) (λ q. simp q) e
+
+pub number-plain : (s : List ℕ) → 0 < length s → isSign (getD s 0 0) ≡ false → numberSpelled s ≡ signed false (digitsOf s)
+unfolding numberSpelled
+number-plain [] h e = absurd (not-suc-le-zero h)
+number-plain (x ∷ xs) h e =
+    test (eqb x 43)
+    (λ p. absurd (true≢false (simp p at e)))
+    (λ p. let q : eqb x 45 ≡ false = simp p at e in simp (p, q))

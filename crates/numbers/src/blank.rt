@@ -5,13 +5,14 @@ ghost use mathlib.Core.List.{reverse};
 ghost use Rattle.text.specs.Blank.{isAsciiBlank, dropWhile, dropEnd, isBlank1, isBlank2, isBlank3, isBlank, back, sizeOf, trimStart, trimEnd, trim};
 ghost use Rattle.text.specs.Utf8.{within};
 ghost use lib.ListN.{take};
+use classes::class::is_ascii_blank;
 use text::num::min;
 
-// A Unicode blank of one byte.
+// A Unicode blank of one byte: an ASCII blank, or 0b.
 fn is_blank1(a: u8) -> bool
     ensures { λ r. ⌜ r ≡ isBlank1 a ⌝ }
 {
-    ((0x09 <= a) & (a <= 0x0d)) | (a == 0x20)
+    is_ascii_blank(a) | (a == 0x0b)
 }
 
 // A Unicode blank of two bytes: U+0085, U+00A0.
@@ -79,8 +80,14 @@ fn wide_len(two: &[u8], three: &[u8]) -> usize
     0
 }
 
-// The length of the Unicode blank that s starts with, or 0. The longer ones start with no ASCII byte, so one look
-// mostly tells.
+// A byte that neither is a blank nor starts or ends one.
+fn is_plain(b: u8) -> bool
+    ensures { λ r. ⌜ r ≡ within 0x21 0x7f b ⌝ }
+{
+    (0x21 <= b) & (b <= 0x7f)
+}
+
+// The length of the Unicode blank that s starts with, or 0. Most bytes are plain, so one look tells.
 fn blank_len(s: &[u8]) -> usize
     ensures { λ r. ⌜ r ≡ sizeOf isBlank (now (s .entry)) ⌝ }
 {
@@ -88,16 +95,16 @@ fn blank_len(s: &[u8]) -> usize
         return 0;
     }
     let b = s[0];
+    if is_plain(b) {
+        return 0;
+    }
     if is_blank1(b) {
         return 1;
-    }
-    if b < 0x80 {
-        return 0;
     }
     wide_len(first(s, 2), first(s, 3))
 }
 
-// The length of the one that s ends with, or 0. The longer ones end with no ASCII byte either.
+// The length of the one that s ends with, or 0.
 fn end_blank_len(s: &[u8]) -> usize
     ensures { λ r. ⌜ r ≡ sizeOf (back isBlank) (reverse (now (s .entry))) ⌝ }
 {
@@ -105,11 +112,11 @@ fn end_blank_len(s: &[u8]) -> usize
         return 0;
     }
     let b = s[s.len() - 1];
+    if is_plain(b) {
+        return 0;
+    }
     if is_blank1(b) {
         return 1;
-    }
-    if b < 0x80 {
-        return 0;
     }
     wide_len(last(s, 2), last(s, 3))
 }
@@ -118,32 +125,27 @@ pub fn trim_start(s: &[u8]) -> &[u8]
     ensures { λ r. ⌜ now r ≡ trimStart (now (s .entry)) ⌝ }
 {
     let mut t = s;
-    let mut k = blank_len(t);
-    while 0 < k {
+    loop {
+        let k = blank_len(t);
+        if k == 0 {
+            return t;
+        }
         t = &t[k..];
-        k = blank_len(t);
     }
-    t
 }
 
 pub fn trim_end(s: &[u8]) -> &[u8]
     ensures { λ r. ⌜ now r ≡ trimEnd (now (s .entry)) ⌝ }
 {
     let mut t = s;
-    let mut k = end_blank_len(t);
-    while 0 < k {
+    loop {
+        let k = end_blank_len(t);
+        if k == 0 {
+            return t;
+        }
         let n = t.len() - k;
         t = &t[..n];
-        k = end_blank_len(t);
     }
-    t
-}
-
-// A byte that neither is a blank nor starts or ends one.
-fn is_plain(b: u8) -> bool
-    ensures { λ r. ⌜ r ≡ within 0x21 0x7f b ⌝ }
-{
-    (0x21 <= b) & (b <= 0x7f)
 }
 
 // s without the Unicode blanks at both ends. Where both end bytes are plain there is nothing to take off.
@@ -159,28 +161,24 @@ pub fn trim(s: &[u8]) -> &[u8]
     trim_end(trim_start(s))
 }
 
-// One of 20, 09, 0a, 0c, 0d. 0b is none, so before `GW` it stays.
-fn is_ascii_blank(b: u8) -> bool
-    ensures { λ r. ⌜ r ≡ isAsciiBlank b ⌝ }
-{
-    (b == 0x20) | (b == 0x09) | (b == 0x0a) | (b == 0x0c) | (b == 0x0d)
-}
-
+// s without the ASCII blanks that it starts with. None is above 20, which tells most bytes before their class is looked
+// up.
 pub fn trim_ascii_start(s: &[u8]) -> &[u8]
     ensures { λ r. ⌜ now r ≡ dropWhile isAsciiBlank (now (s .entry)) ⌝ }
 {
     let mut i = 0;
-    while i < s.len() && is_ascii_blank(s[i]) {
+    while i < s.len() && s[i] < 0x21 && is_ascii_blank(s[i]) {
         i += 1;
     }
     &s[i..]
 }
 
+// s without the ASCII blanks that it ends with.
 pub fn trim_ascii_end(s: &[u8]) -> &[u8]
     ensures { λ r. ⌜ now r ≡ dropEnd isAsciiBlank (now (s .entry)) ⌝ }
 {
     let mut n = s.len();
-    while 0 < n && is_ascii_blank(s[n - 1]) {
+    while 0 < n && s[n - 1] < 0x21 && is_ascii_blank(s[n - 1]) {
         n -= 1;
     }
     &s[..n]

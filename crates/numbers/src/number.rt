@@ -6,6 +6,8 @@ ghost use Prim.Native.Nat.{_≤_, min};
 ghost use lib.IntN.{pos, negℤ};
 ghost use Rattle.numbers.specs.Number.{digitsOf, capped, signed, numberSpelled, fieldNumber, numberOr, fieldOr};
 use crate::blank::trim;
+use classes::class::is_digit;
+use classes::class::is_sign;
 
 // What a field held. Its form comes before its range: 99999999999x is no number, 99999999999 is one beyond 32 bits.
 pub enum Number {
@@ -46,10 +48,7 @@ fn digits(s: &[u8]) -> Magnitude
     let mut i = 0;
     while i < s.len() {
         let c = s[i];
-        if c < 48 {
-            return Magnitude::Bad;
-        }
-        if 57 < c {
+        if !is_digit(c) {
             return Magnitude::Bad;
         }
         let w = v * 10 + ((c - 48) as u64);
@@ -103,11 +102,8 @@ pub fn parse(s: &[u8]) -> Number
         return Number::Empty;
     }
     let c = s[0];
-    if c == 45 {
-        return after_sign(true, &s[1..]);
-    }
-    if c == 43 {
-        return after_sign(false, &s[1..]);
+    if is_sign(c) {
+        return after_sign(c == 45, &s[1..]);
     }
     after_sign(false, s)
 }

@@ -1,25 +1,24 @@
 -- Numbers by their place: what a call that read one leaves to the next, and what `number_from` reads.
 -- Assumes nothing.
 use mathlib.Core.Path.{_≡_, refl, sym, ap, _∙_}
-use mathlib.Core.Bool.{true, false, _&&_}
+use mathlib.Core.Bool.{true}
 use mathlib.Core.List.{List}
 use Prim.Native.Nat.{ℕ, suc, _+_, _-_, _*_, _<_, _≤_}
 use native.Mathlib.Omega.{arith}
-use lib.Dec.{eqb, leb, ltb}
+use lib.Dec.{leb}
 use lib.IntN.{ℤ, pos}
-use lib.ListN.{length, getD, take, drop, length-drop, length-take, drop-of-length-le, List·getD-eq-default}
+use lib.ListN.{length, getD, take, drop, length-drop, length-take, drop-of-length-le}
 use lib.Seq.{drop-drop}
-use borrow.Author.Tests.{eqb-true, leb-true, leb-false, ltb-true, ltb-false}
+use borrow.Author.Tests.{leb-true, leb-false}
 use Rattle.text.specs.Class.{isDigit}
 use Rattle.text.specs.Fields.{indexOf, before, after}
 use Rattle.numbers.specs.Int.{maxZ}
-use Rattle.numbers.specs.Number.{numberSpelled, fieldOr}
-use Rattle.text.proofs.BoolLaws.{test, and-both, within-high}
+use Rattle.numbers.specs.Number.{valueFrom, numberSpelled, fieldOr}
+use Rattle.text.proofs.BoolLaws.{test, within-high}
 use Rattle.text.proofs.FieldsLaws.{index-le}
 use Rattle.numbers.proofs.PlainLaws.{field-digits, index-digit, index-end, index-here, value-digit, value-end}
 use Rattle.parameters.specs.FieldValues.{sizeOr, pointOf}
-use Rattle.parameters.specs.Params.{numberAt, sizeAt, pointAt, placeOf, oneDigit, numberFrom, sizeFrom, pointFrom, Ran}
-use Rattle.parameters.specs.declared.params.Digits.{Digits}
+use Rattle.parameters.specs.Params.{numberAt, sizeAt, pointAt, placeOf, numberFrom, sizeFrom, pointFrom}
 use Rattle.parameters.specs.declared.field_reader.Numbered.{Numbered}
 use Rattle.parameters.specs.declared.params.Pointed.{Pointed}
 
@@ -95,66 +94,47 @@ module _ (d : ℤ) (s : List ℕ) (at n : ℕ) (z : ℤ) (h : at ≤ length s) (
   unfolding numberFrom
   any-end l = rw (any-value, next-end s at (at + n) h (omega arith) l)
 
--- digits up to the end or a comma: their value is the field's number
+-- the loop over digits: read on from `end` with their value v, the field at `at` has the same value and the same comma
+pub record Ran (s : List ℕ) (at v end : ℕ) : Type 0 where
+  pub low : at ≤ end
+  pub high : end ≤ length s
+  pub small : v < 1000000000
+  pub place : at + indexOf 44 (drop at s) ≡ end + indexOf 44 (drop end s)
+  pub digits : valueFrom 0 (before 44 (drop at s)) ≡ valueFrom v (before 44 (drop end s))
 
-ended : {s : List ℕ} {at : ℕ} {r : Digits} → Ran s at r → indexOf 44 (drop (r .end) s) ≡ 0 → r .end ≡ at + indexOf 44 (drop at s)
-ended r e = let p = r .place in omega arith
+module _ (s : List ℕ) (at v end : ℕ) (r : Ran s at v end) where
+  -- a turn of it
+  pub ran-digit : {w : ℕ} → end < length s → v < 100000000 → isDigit (getD s end 0) ≡ true → w ≡ v * 10 + (getD s end 0 - 48) → Ran s at w (end + 1)
+  ran-digit h b d e =
+      record {
+        low = omega (arith, r .low);
+        high = omega arith;
+        small = omega (arith, within-high 48 57 (getD s end 0) d);
+        place = omega (arith, r .place, index-digit s end v h d);
+        digits = r .digits ∙ value-digit s end v h d ∙ ap (λ (n : ℕ). valueFrom n (before 44 (drop (end + 1) s))) (sym e);
+      }
 
-digits-number : (d : ℤ) (s : List ℕ) (at : ℕ) (r : Digits) → Ran s at r → at < r .end → indexOf 44 (drop (r .end) s) ≡ 0 → pos (r .value) ≡ numberAt d (drop at s)
-unfolding numberAt before
-digits-number d s at r h l e =
-    let k = ended h e in
-    sym (field-digits d (before 44 (drop at s)) (r .value) (simp (length-take, length-drop) (omega (arith, h .high))) (h .digits ∙ value-end (drop (r .end) s) (r .value) e) (omega (arith, h .small)))
+  -- digits up to the end or a comma: their value is the field's number
+  module _ (d : ℤ) (some : at < end) where
+    ended : indexOf 44 (drop end s) ≡ 0 → end ≡ at + indexOf 44 (drop at s)
+    ended e = omega (arith, r .place)
 
-pub plain-comma : (d : ℤ) (s : List ℕ) (at : ℕ) (r : Digits) → Ran s at r → at < r .end → r .end < length s → getD s (r .end) 0 ≡ 44 → record { value = pos (r .value); next = r .end + 1 } ≡ numberFrom d s at
-unfolding numberFrom
-plain-comma d s at r h l b e =
-    let z = index-here s (r .end) b e in
-    rw (digits-number d s at r h l z, next-comma s at (r .end) (omega arith) (ended h z) b)
+    digits-number : indexOf 44 (drop end s) ≡ 0 → pos v ≡ numberAt d (drop at s)
+    unfolding numberAt before
+    digits-number e =
+        sym (field-digits d (before 44 (drop at s)) v (simp (length-take, length-drop) (omega (arith, r .high, ended e))) (r .digits ∙ value-end (drop end s) v e) (omega (arith, r .small)))
 
-pub plain-end : (d : ℤ) (s : List ℕ) (at : ℕ) (r : Digits) → Ran s at r → at < r .end → r .end ≡ length s → record { value = pos (r .value); next = r .end } ≡ numberFrom d s at
-unfolding numberFrom
-plain-end d s at r h l b =
-    let z = index-end s (r .end) (omega arith) in
-    rw (digits-number d s at r h l z, next-end s at (r .end) (omega arith) (ended h z) (omega arith))
+    pub plain-comma : end < length s → getD s end 0 ≡ 44 → record { value = pos v; next = end + 1 } ≡ numberFrom d s at
+    unfolding numberFrom
+    plain-comma b e =
+        let z = index-here s end b e in
+        rw (digits-number z, next-comma s at end (omega arith) (ended z) b)
 
--- one turn of the loop over digits
-pub ran-digit : (s : List ℕ) (at v i : ℕ) → Ran s at (record { value = v; end = i }) → i < length s → v < 100000000 → isDigit (getD s i 0) ≡ true → Ran s at (record { value = v * 10 + (getD s i 0 - 48); end = i + 1 })
-ran-digit s at v i r h b d =
-    record {
-      low = omega (arith, r .low);
-      high = omega arith;
-      small = omega (arith, within-high 48 57 (getD s i 0) d);
-      place = omega (arith, r .place, index-digit s i v h d);
-      digits = r .digits ∙ value-digit s i v h d;
-    }
-
--- a field of one digit
-pub one-none : (s : List ℕ) (at : ℕ) → length s ≤ at + 1 → false ≡ oneDigit s at
-one-none s at h =
-    let z : eqb (getD s (at + 1) 0) 44 ≡ false = ap (λ (x : ℕ). eqb x 44) (List·getD-eq-default s 0 h) in
-    test (isDigit (getD s at 0)) (λ e. sym (λ i. e i && z i)) (λ e. sym (λ i. e i && z i))
-
-module _ (s : List ℕ) (at : ℕ) (told : oneDigit s at ≡ true) where
-  pub one-comma : getD s (at + 1) 0 ≡ 44
-  one-comma = eqb-true (getD s (at + 1) 0) 44 (and-both (isDigit (getD s at 0)) (eqb (getD s (at + 1) 0) 44) told .1)
-
-  pub one-digit : isDigit (getD s at 0) ≡ true
-  one-digit = and-both (isDigit (getD s at 0)) (eqb (getD s (at + 1) 0) 44) told .0
-
-  pub one-inside : at + 1 < length s
-  one-inside =
-      test (ltb (at + 1) (length s))
-      (λ e. ltb-true (at + 1) (length s) e)
-      (λ e. let z = List·getD-eq-default s 0 {n = at + 1} (ltb-false (at + 1) (length s) e) in absurd (omega (arith, one-comma)))
-
-  pub one-is : (d : ℤ) → record { value = pos (getD s at 0 - 48); next = at + 2 } ≡ numberFrom d s at
-  one-is d =
-      let b : Ran s at (record { value = 0; end = at }) = record { low = omega arith; high = omega (arith, one-inside); small = omega arith; place = refl; digits = refl } in
-      let v : 0 * 10 + (getD s at 0 - 48) ≡ getD s at 0 - 48 = omega arith in
-      let n : at + 1 + 1 ≡ at + 2 = omega arith in
-      let r = plain-comma d s at _ (ran-digit s at 0 at b (omega (arith, one-inside)) (omega arith) one-digit) (omega arith) one-inside one-comma in
-      rw (v, n) at r
+    pub plain-end : end ≡ length s → record { value = pos v; next = end } ≡ numberFrom d s at
+    unfolding numberFrom
+    plain-end b =
+        let z = index-end s end (omega arith) in
+        rw (digits-number z, next-end s at end (omega arith) (ended z) (omega arith))
 
 -- a size by its number, a point by its two
 

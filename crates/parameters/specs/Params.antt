@@ -9,13 +9,11 @@ use lib.Dec.{eqb}
 use lib.IntN.{ℤ}
 use lib.ListN.{length, getD, drop}
 use Rattle.text.specs.Blank.{trim}
-use Rattle.text.specs.Class.{isDigit}
 use Rattle.text.specs.Fields.{indexOf, before, after}
 use Rattle.text.specs.Utf8.{within}
-use Rattle.numbers.specs.Number.{valueFrom, fieldOr}
+use Rattle.numbers.specs.Number.{fieldOr}
 use Rattle.elements.specs.declared.LabelPosition.{LabelPosition}
 use Rattle.parameters.specs.declared.field_reader.Numbered.{Numbered}
-use Rattle.parameters.specs.declared.params.Digits.{Digits}
 use Rattle.parameters.specs.declared.params.Pointed.{Pointed}
 use Rattle.parameters.specs.FieldValues.{sizeOr, pointOf, exactly}
 
@@ -58,19 +56,6 @@ unfoldable pub pointFrom : List ℕ → ℕ → Pointed
 pointFrom s at = record { point = pointAt (drop at s); next = placeOf s (after 44 (after 44 (drop at s))) }
 
 -- ---- the parts
--- a field of one digit, closed by a comma
-abbrev pub oneDigit : List ℕ → ℕ → Bool
-oneDigit s at = isDigit (getD s at 0) && eqb (getD s (at + 1) 0) 44
-
 -- the first field is one byte, neither a comma nor part of a blank
 abbrev pub alone : List ℕ → Bool
 alone s = within 0x2d 0x7f (getD s 0 0) && eqb (indexOf 44 s) 1
-
--- what `digits_from` answers: read on from r's end with r's value, the field at `at` has the same value and the same
--- comma
-pub record Ran (s : List ℕ) (at : ℕ) (r : Digits) : Type 0 where
-  pub low : at ≤ r .end
-  pub high : r .end ≤ length s
-  pub small : r .value < 1000000000
-  pub place : at + indexOf 44 (drop at s) ≡ r .end + indexOf 44 (drop (r .end) s)
-  pub digits : valueFrom 0 (before 44 (drop at s)) ≡ valueFrom (r .value) (before 44 (drop (r .end) s))

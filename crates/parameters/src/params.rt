@@ -8,13 +8,13 @@ ghost use lib.Dec.{leb};
 ghost use lib.ListN.{length, drop};
 ghost use Rattle.text.specs.Fields.{fields};
 ghost use Rattle.text.specs.Utf8.{within};
-ghost use Rattle.parameters.specs.Params.{Ran, alone, oneDigit, numberAt, numberFrom, sizeFrom, pointFrom, typeAt, exactlyAt};
+ghost use Rattle.parameters.specs.Params.{alone, numberAt, numberFrom, sizeFrom, pointFrom, typeAt, exactlyAt};
 use crate::field_reader::Numbered;
 use crate::field_reader::new;
 use crate::field_reader::next_number;
 use crate::field_reader::rest;
-use bytes::class::is_digit;
 use bytes::fields::first_field;
+use classes::class::is_digit;
 use elements::LabelPosition;
 use numbers::blank::trim;
 use numbers::int::max;
@@ -28,79 +28,32 @@ pub fn field_from(s: &[u8], at: usize, default: i32) -> Numbered
     next_number(new(s, at), default)
 }
 
-// The value of digits, and where they end.
-struct Digits {
-    value: u32,
-    end: usize,
-}
-
-// The digits from at on, as far as nine are enough to say their value.
-fn digits_from(s: &[u8], at: usize) -> Digits
-    requires { ⌜ at ≤ length (now s) ⌝ }
-    ensures { λ r. ⌜ Ran (now (s .entry)) at r ⌝ }
-{
-    let mut value: u32 = 0;
-    let mut end = at;
-    while end < s.len() && value < 100000000 && is_digit(s[end]) {
-        value = value * 10 + ((s[end] - 48) as u32);
-        end += 1;
-    }
-    Digits { value, end }
-}
-
-// The number in the field at a place, or the default. A few digits, which most fields are, say their value as they
-// stand. Small, so that it is inlined;
-// the other fields are a call of `field_from`.
-fn digits_or_field(s: &[u8], at: usize, default: i32) -> Numbered
-    ensures { λ r. ⌜ r ≡ numberFrom default (now (s .entry)) at ⌝ }
-{
-    if s.len() <= at {
-        return Numbered {
-            value: or_default(Number::Empty, default),
-            next: s.len(),
-        };
-    }
-    let d = digits_from(s, at);
-    let end = d.end;
-    let value = d.value as i32;
-    if at < end {
-        if end == s.len() {
-            return Numbered { value, next: end };
-        }
-        if s[end] == b',' {
-            return Numbered {
-                value,
-                next: end + 1,
-            };
-        }
-    }
-    field_from(s, at, default)
-}
-
-// One digit and a comma stand at a place.
-fn is_one_digit(s: &[u8], at: usize) -> bool
-    ensures { λ r. ⌜ r ≡ oneDigit (now (s .entry)) at ⌝ }
-{
-    if s.len() < 2 {
-        return false;
-    }
-    if s.len() - 2 < at {
-        return false;
-    }
-    is_digit(s[at]) & (s[at + 1] == b',')
-}
-
-// The number in the field at a place, or the default. One digit, which many fields are, is told at once.
+// The number in the field at a place, or the default. A few digits up to a comma or the end, which most fields are, say
+// their value as they stand. Small, so that it is inlined; the other fields are a call of `field_from`.
 pub fn number_from(s: &[u8], at: usize, default: i32) -> Numbered
     ensures { λ r. ⌜ r ≡ numberFrom default (now (s .entry)) at ⌝ }
 {
-    if is_one_digit(s, at) {
-        return Numbered {
-            value: (s[at] - 48) as i32,
-            next: at + 2,
-        };
+    if at < s.len() {
+        let mut value: u32 = 0;
+        let mut end = at;
+        while value < 100000000 && is_digit(s[end]) {
+            value = value * 10 + (s[end] as u32) - 48;
+            end += 1;
+            if end == s.len() {
+                return Numbered {
+                    value: value as i32,
+                    next: end,
+                };
+            }
+            if s[end] == b',' {
+                return Numbered {
+                    value: value as i32,
+                    next: end + 1,
+                };
+            }
+        }
     }
-    digits_or_field(s, at, default)
+    field_from(s, at, default)
 }
 
 // The number in the first field, or the default. Where s is empty, as fields of hostile files are, its field is told at

@@ -5,7 +5,7 @@ ghost use lib.ListN.{getD};
 ghost use Rattle.text.specs.Ascii.{spelt};
 ghost use Rattle.spelling.specs.Command.{isReference, isPrint, commandOf};
 use bytes::class::all_digits;
-use bytes::class::is_digit;
+use classes::class::is_digit;
 use elements::LineColor;
 use parameters::params::tail;
 

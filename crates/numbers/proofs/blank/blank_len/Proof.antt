@@ -4,7 +4,7 @@ use mathlib.Core.Path.{refl, sym, ap, _∙_}
 use native.Mathlib.Omega.{arith}
 use borrow.Author.Needs.{needs}
 use Rattle.text.specs.Blank.{isBlank}
-use Rattle.text.proofs.BlankSteps.{size-one, size-wide, blank-first, size-ascii, size-le}
+use Rattle.text.proofs.BlankSteps.{size-one, size-wide, blank-first, size-plain, size-le}
 use Rattle.numbers.proofs.blank.blank_len.Statement.{statement}
 use Rattle.numbers.proofs.blank.blank_len.Tie as tie
 
@@ -14,14 +14,17 @@ returns c = omega (arith, size-le isBlank refl (c .before .before .args .s .now)
 shared-slice-read-b : tie.Need-shared-slice-read-b
 shared-slice-read-b c = search needs
 
+is-plain-requires : tie.Need-is-plain-requires
+is-plain-requires c κs = search needs
+
+returns-2 : tie.Need-returns-2
+returns-2 c = sym (size-plain (c .before .before .before .before .before .args .s .now) (sym (c .before .is-plain .ensures) ∙ c .if2 .taken))
+
 is-blank1-requires : tie.Need-is-blank1-requires
 is-blank1-requires c κs = search needs
 
-returns-2 : tie.Need-returns-2
-returns-2 c = let s = c .before .before .before .before .before .args .s .now in size-one isBlank s (blank-first s ∙ sym (c .before .is-blank1 .ensures) ∙ c .if2 .taken)
-
 returns-3 : tie.Need-returns-3
-returns-3 c = let b = c .before .before in sym (size-ascii (b .before .before .before .before .args .s .now) (c .if3 .taken) (sym (b .is-blank1 .ensures) ∙ c .before .if2 .left))
+returns-3 c = let s = c .before .before .before .before .before .before .before .args .s .now in size-one isBlank s (blank-first s ∙ sym (c .before .is-blank1 .ensures) ∙ c .if3 .taken)
 
 first-requires : tie.Need-first-requires
 first-requires c κs = search needs
@@ -34,9 +37,9 @@ wide-len-requires c κs = search needs
 
 returns-4 : tie.Need-returns-4
 returns-4 c =
-    let e = c .before .before .before .before in
-    let s = e .before .before .before .before .before .args .s .now in
-    size-wide isBlank s (blank-first s ∙ sym (e .before .is-blank1 .ensures) ∙ e .if2 .left) (ap isBlank (c .before .before .first .ensures)) (ap isBlank (c .before .first2 .ensures)) (c .wide-len .ensures)
+    let e = c .before .before .before in
+    let s = e .before .before .before .before .before .before .before .args .s .now in
+    size-wide isBlank s (blank-first s ∙ sym (e .before .is-blank1 .ensures) ∙ e .if3 .left) (ap isBlank (c .before .before .first .ensures)) (ap isBlank (c .before .first2 .ensures)) (c .wide-len .ensures)
 
 pub blank-len-spec : {M : Type 1} → statement M
 blank-len-spec =
@@ -44,8 +47,9 @@ blank-len-spec =
     (tie.spec
     returns
     shared-slice-read-b
-    is-blank1-requires
+    is-plain-requires
     returns-2
+    is-blank1-requires
     returns-3
     first-requires
     first-requires-2

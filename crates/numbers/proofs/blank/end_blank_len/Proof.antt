@@ -5,7 +5,7 @@ use mathlib.Core.List.{reverse}
 use native.Mathlib.Omega.{arith}
 use borrow.Author.Needs.{needs}
 use Rattle.text.specs.Blank.{isBlank, back}
-use Rattle.text.proofs.BlankSteps.{size-one, size-wide, blank-last, end-ascii, end-le}
+use Rattle.text.proofs.BlankSteps.{size-one, size-wide, blank-last, end-plain, end-le}
 use Rattle.numbers.proofs.blank.end_blank_len.Statement.{statement}
 use Rattle.numbers.proofs.blank.end_blank_len.Tie as tie
 
@@ -18,14 +18,17 @@ sub-b c = search needs
 shared-slice-read-b : tie.Need-shared-slice-read-b
 shared-slice-read-b c = search needs
 
+is-plain-requires : tie.Need-is-plain-requires
+is-plain-requires c κs = search needs
+
+returns-2 : tie.Need-returns-2
+returns-2 c = sym (end-plain (c .before .before .before .before .before .args .s .now) (omega arith) (sym (c .before .is-plain .ensures) ∙ c .if2 .taken))
+
 is-blank1-requires : tie.Need-is-blank1-requires
 is-blank1-requires c κs = search needs
 
-returns-2 : tie.Need-returns-2
-returns-2 c = let s = c .before .before .before .before .before .args .s .now in size-one (back isBlank) (reverse s) (blank-last s (omega arith) ∙ sym (c .before .is-blank1 .ensures) ∙ c .if2 .taken)
-
 returns-3 : tie.Need-returns-3
-returns-3 c = let b = c .before .before in sym (end-ascii (b .before .before .before .before .args .s .now) (omega arith) (c .if3 .taken) (sym (b .is-blank1 .ensures) ∙ c .before .if2 .left))
+returns-3 c = let s = c .before .before .before .before .before .before .before .args .s .now in size-one (back isBlank) (reverse s) (blank-last s (omega arith) ∙ sym (c .before .is-blank1 .ensures) ∙ c .if3 .taken)
 
 last-requires : tie.Need-last-requires
 last-requires c κs = search needs
@@ -38,9 +41,9 @@ wide-len-requires c κs = search needs
 
 returns-4 : tie.Need-returns-4
 returns-4 c =
-    let e = c .before .before .before .before in
-    let s = e .before .before .before .before .before .args .s .now in
-    size-wide (back isBlank) (reverse s) (blank-last s (omega arith) ∙ sym (e .before .is-blank1 .ensures) ∙ e .if2 .left) (ap isBlank (c .before .before .last .ensures)) (ap isBlank (c .before .last2 .ensures)) (c .wide-len .ensures)
+    let e = c .before .before .before in
+    let s = e .before .before .before .before .before .before .before .args .s .now in
+    size-wide (back isBlank) (reverse s) (blank-last s (omega arith) ∙ sym (e .before .is-blank1 .ensures) ∙ e .if3 .left) (ap isBlank (c .before .before .last .ensures)) (ap isBlank (c .before .last2 .ensures)) (c .wide-len .ensures)
 
 pub end-blank-len-spec : {M : Type 1} → statement M
 end-blank-len-spec =
@@ -49,8 +52,9 @@ end-blank-len-spec =
     returns
     sub-b
     shared-slice-read-b
-    is-blank1-requires
+    is-plain-requires
     returns-2
+    is-blank1-requires
     returns-3
     last-requires
     last-requires-2

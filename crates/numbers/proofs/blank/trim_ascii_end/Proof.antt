@@ -1,14 +1,17 @@
--- `crate::blank::trim_ascii_end` meets its contract. Invariant: nothing but blanks stands from n on. Measure: n.
+-- `crate::blank::trim_ascii_end` meets its contract. Invariant: nothing but blanks stands from n on; a byte
+-- above 20 is none. Measure: n.
 -- Assumes nothing.
 use mathlib.Core.Logic.{⊎-elim}
 use mathlib.Core.Path.{_≡_, sym, _∙_}
 use mathlib.Core.List.{reverse}
-use Prim.Native.Nat.{_≤_}
+use Prim.Native.Nat.{_-_, _≤_}
 use native.Mathlib.Omega.{arith}
-use lib.ListN.{length, take, length-take}
+use lib.ListN.{length, getD, take, length-take}
 use lib.Seq.{take-length}
 use borrow.Author.Needs.{needs}
+use borrow.Author.Tests.{ltb-false}
 use Rattle.text.specs.Blank.{isAsciiBlank, dropWhile}
+use Rattle.text.proofs.BlankSteps.{ascii-low}
 use Rattle.text.proofs.DropSteps.{back-skip, back-stop, back-end}
 use Rattle.numbers.proofs.blank.trim_ascii_end.Statement.{statement}
 use Rattle.numbers.proofs.blank.trim_ascii_end.Tie as tie
@@ -21,6 +24,12 @@ abbrev μ-loop : tie.MeasureT-loop
 
 loop-holds : tie.Need-loop-holds Inv-loop μ-loop
 loop-holds c = (search needs, cc (take-length (c .before .args .s .now)))
+
+sub-if1 : tie.Need-sub-if1 Inv-loop μ-loop
+sub-if1 c = search needs
+
+shared-slice-read-if1 : tie.Need-shared-slice-read-if1 Inv-loop μ-loop
+shared-slice-read-if1 c = search needs
 
 sub-is-ascii-blank : tie.Need-sub-is-ascii-blank Inv-loop μ-loop
 sub-is-ascii-blank c = search needs
@@ -39,8 +48,8 @@ loop-less c = search needs
 
 loop-again : tie.Need-loop-again Inv-loop μ-loop
 loop-again c =
-    let l = c .before .before .before .before in
-    (search needs, l .loop .inv .1 ∙ back-skip isAsciiBlank (l .before .before .args .s .now) (l .loop .n) (search needs) (search needs) (sym (c .before .is-ascii-blank .ensures) ∙ c .if1 .taken))
+    let l = c .before .before .before .before .before .before in
+    (search needs, l .loop .inv .1 ∙ back-skip isAsciiBlank (l .before .before .args .s .now) (l .loop .n) (search needs) (search needs) (sym (c .before .is-ascii-blank .ensures) ∙ c .if2 .taken))
 
 slice-aggregate-result : tie.Need-slice-aggregate-result Inv-loop μ-loop
 slice-aggregate-result c = simp length-take (omega arith)
@@ -50,8 +59,10 @@ returns c =
     let l = c .before .before in
     let s = l .before .before .args .s .now in
     ⊎-elim
-    (λ w. back-stop isAsciiBlank s (l .loop .n) (l .loop .inv .1) (w .0 .taken) (search needs) (sym (w .2 .ensures) ∙ w .3 .left))
-    (λ w. back-end isAsciiBlank s (l .loop .n) (l .loop .inv .1) (w .left))
+    (λ w. back-stop isAsciiBlank s (l .loop .n) (l .loop .inv .1) (w .0 .taken) (search needs) (sym (w .4 .ensures) ∙ w .5 .left))
+    (⊎-elim
+    (λ w. back-stop isAsciiBlank s (l .loop .n) (l .loop .inv .1) (w .0 .taken) (search needs) (ascii-low (getD s (l .loop .n - 1) 0) (ltb-false (getD s (l .loop .n - 1) 0) 33 (w .2 .left))))
+    (λ w. back-end isAsciiBlank s (l .loop .n) (l .loop .inv .1) (w .left)))
     (c .before .loop-test .came)
 
 pub trim-ascii-end-spec : {M : Type 1} → statement M
@@ -61,6 +72,8 @@ trim-ascii-end-spec =
     Inv-loop
     μ-loop
     loop-holds
+    sub-if1
+    shared-slice-read-if1
     sub-is-ascii-blank
     shared-slice-read-is-ascii-blank
     is-ascii-blank-requires

@@ -1,12 +1,14 @@
--- `crate::blank::trim_ascii_start` meets its contract. Invariant: nothing but blanks stands before i. Measure: s's
--- length less i.
+-- `crate::blank::trim_ascii_start` meets its contract. Invariant: nothing but blanks stands before i; a byte
+-- above 20 is none. Measure: s's length less i.
 -- Assumes nothing.
 use mathlib.Core.Logic.{⊎-elim}
 use mathlib.Core.Path.{_≡_, sym, _∙_}
 use Prim.Native.Nat.{_-_, _≤_}
-use lib.ListN.{length, drop}
+use lib.ListN.{length, getD, drop}
 use borrow.Author.Needs.{needs}
+use borrow.Author.Tests.{ltb-false}
 use Rattle.text.specs.Blank.{isAsciiBlank, dropWhile}
+use Rattle.text.proofs.BlankSteps.{ascii-low}
 use Rattle.text.proofs.DropSteps.{front-skip, front-stop, front-end}
 use Rattle.numbers.proofs.blank.trim_ascii_start.Statement.{statement}
 use Rattle.numbers.proofs.blank.trim_ascii_start.Tie as tie
@@ -19,6 +21,9 @@ abbrev μ-loop : tie.MeasureT-loop
 
 loop-holds : tie.Need-loop-holds Inv-loop μ-loop
 loop-holds c = search needs
+
+shared-slice-read-if1 : tie.Need-shared-slice-read-if1 Inv-loop μ-loop
+shared-slice-read-if1 c = search needs
 
 shared-slice-read-is-ascii-blank : tie.Need-shared-slice-read-is-ascii-blank Inv-loop μ-loop
 shared-slice-read-is-ascii-blank c = search needs
@@ -34,8 +39,8 @@ loop-less c = search needs
 
 loop-again : tie.Need-loop-again Inv-loop μ-loop
 loop-again c =
-    let l = c .before .before .before .before in
-    (search needs, l .loop .inv .1 ∙ front-skip isAsciiBlank (l .before .before .args .s .now) (l .loop .i) (search needs) (sym (c .before .is-ascii-blank .ensures) ∙ c .if1 .taken))
+    let l = c .before .before .before .before .before .before in
+    (search needs, l .loop .inv .1 ∙ front-skip isAsciiBlank (l .before .before .args .s .now) (l .loop .i) (search needs) (sym (c .before .is-ascii-blank .ensures) ∙ c .if2 .taken))
 
 sub-result : tie.Need-sub-result Inv-loop μ-loop
 sub-result c = search needs
@@ -51,8 +56,10 @@ returns c =
     let l = c .before .before in
     let s = l .before .before .args .s .now in
     ⊎-elim
-    (λ w. front-stop isAsciiBlank s (l .loop .i) (l .loop .inv .1) (w .0 .taken) (sym (w .2 .ensures) ∙ w .3 .left))
-    (λ w. front-end isAsciiBlank s (l .loop .i) (l .loop .inv .1) (w .left))
+    (λ w. front-stop isAsciiBlank s (l .loop .i) (l .loop .inv .1) (w .0 .taken) (sym (w .4 .ensures) ∙ w .5 .left))
+    (⊎-elim
+    (λ w. front-stop isAsciiBlank s (l .loop .i) (l .loop .inv .1) (w .0 .taken) (ascii-low (getD s (l .loop .i) 0) (ltb-false (getD s (l .loop .i) 0) 33 (w .2 .left))))
+    (λ w. front-end isAsciiBlank s (l .loop .i) (l .loop .inv .1) (w .left)))
     (c .before .loop-test .came)
 
 pub trim-ascii-start-spec : {M : Type 1} → statement M
@@ -62,6 +69,7 @@ trim-ascii-start-spec =
     Inv-loop
     μ-loop
     loop-holds
+    shared-slice-read-if1
     shared-slice-read-is-ascii-blank
     is-ascii-blank-requires
     add-i

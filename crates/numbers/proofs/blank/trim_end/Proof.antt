@@ -1,52 +1,52 @@
--- `crate::blank::trim_end` meets its contract. Invariant: t trimmed is s trimmed, and k is the blank that t ends with.
--- Measure: t's length.
+-- `crate::blank::trim_end` meets its contract. Invariant: t trimmed is s trimmed. Measure: t's length.
 -- Assumes nothing.
-use mathlib.Core.Path.{_≡_, refl, sym, _∙_}
-use mathlib.Core.List.{reverse}
+use mathlib.Core.Path.{_≡_, sym, _∙_}
 use Prim.Native.Nat.{_≤_}
 use native.Mathlib.Omega.{arith}
 use lib.ListN.{length, length-take}
 use borrow.Author.Needs.{needs}
-use Rattle.text.specs.Blank.{isBlank, back, sizeOf, trimEnd}
-use Rattle.text.proofs.BlankSteps.{end-le, end-stop, end-less, end-again}
+use Rattle.text.specs.Blank.{trimEnd}
+use Rattle.text.proofs.BlankSteps.{end-le, end-stop, end-step, end-less}
 use Rattle.numbers.proofs.blank.trim_end.Statement.{statement}
 use Rattle.numbers.proofs.blank.trim_end.Tie as tie
 
 abbrev Inv-loop : tie.InvT-loop
-Inv-loop s t₀ k₀ t k = (length t ≤ length s) × (k ≤ length t) × (trimEnd s ≡ trimEnd t) × (k ≡ sizeOf (back isBlank) (reverse t))
+Inv-loop s t₀ t = (length t ≤ length s) × (trimEnd s ≡ trimEnd t)
 
 abbrev μ-loop : tie.MeasureT-loop
-μ-loop s t₀ k₀ t k = length t
+μ-loop s t₀ t = length t
+
+-- the blank is part of t
+fits : (d : tie.After-end-blank-len Inv-loop μ-loop) → d .end-blank-len .result ≤ length (d .before .loop .t .now)
+fits d = omega (arith, d .end-blank-len .ensures, end-le (d .before .loop .t .now))
+
+loop-holds : tie.Need-loop-holds Inv-loop μ-loop
+loop-holds c = search needs
 
 end-blank-len-requires : tie.Need-end-blank-len-requires Inv-loop μ-loop
 end-blank-len-requires c κs = search needs
 
-loop-holds : tie.Need-loop-holds Inv-loop μ-loop
-loop-holds c = (search needs, omega (arith, end-le (c .before .before .args .s .now)), refl, c .end-blank-len .ensures)
+returns : tie.Need-returns Inv-loop μ-loop
+returns c =
+    let d = c .before in let l = d .before .loop in
+    sym (l .inv .1 ∙ end-stop (l .t .now) (d .end-blank-len .result) (d .end-blank-len .ensures) (omega (arith, c .if1 .taken)))
 
 sub-n : tie.Need-sub-n Inv-loop μ-loop
-sub-n c = search needs
+sub-n c = omega (arith, fits (c .before))
 
 slice-aggregate-t : tie.Need-slice-aggregate-t Inv-loop μ-loop
 slice-aggregate-t c = simp length-take (omega arith)
 
-end-blank-len-requires-2 : tie.Need-end-blank-len-requires-2 Inv-loop μ-loop
-end-blank-len-requires-2 c κs = search needs
-
 loop-less : tie.Need-loop-less Inv-loop μ-loop
 loop-less c =
-    let l = c .before .before .before in
-    let i = l .loop .inv in
-    end-less (l .before .before .before .args .s .now) (l .loop .t .now) (l .loop .k) (c .end-blank-len2 .result) (i .0) (i .1) (c .before .before .loop-test .taken)
+    let d = c .before .before in
+    end-less (d .before .loop .t .now) (d .end-blank-len .result) (fits d) (omega (arith, c .before .if1 .left))
 
 loop-again : tie.Need-loop-again Inv-loop μ-loop
 loop-again c =
-    let l = c .before .before .before in
-    let i = l .loop .inv in
-    end-again (l .before .before .before .args .s .now) (l .loop .t .now) (l .loop .k) (c .end-blank-len2 .result) (i .0) (i .1) (c .before .before .loop-test .taken) (i .2) (i .3) (c .end-blank-len2 .ensures)
-
-returns : tie.Need-returns Inv-loop μ-loop
-returns c = let l = c .before .loop in sym (l .inv .2 ∙ end-stop (l .t .now) (l .k) (l .inv .3) (c .loop-test .left))
+    let d = c .before .before in let l = d .before .loop in
+    let some = c .before .if1 .left in
+    (omega (arith, l .inv .0, end-less (l .t .now) (d .end-blank-len .result) (fits d) (omega (arith, some))), l .inv .1 ∙ end-step (l .t .now) (d .end-blank-len .result) (d .end-blank-len .ensures) (omega (arith, some)))
 
 pub trim-end-spec : {M : Type 1} → statement M
 trim-end-spec =
@@ -54,11 +54,10 @@ trim-end-spec =
     (tie.spec
     Inv-loop
     μ-loop
-    end-blank-len-requires
     loop-holds
+    end-blank-len-requires
+    returns
     sub-n
     slice-aggregate-t
-    end-blank-len-requires-2
     loop-less
-    loop-again
-    returns)
+    loop-again)

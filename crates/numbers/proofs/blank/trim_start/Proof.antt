@@ -1,54 +1,55 @@
--- `crate::blank::trim_start` meets its contract. Invariant: t trimmed is s trimmed, and k is the blank that t starts
--- with. Measure: t's length.
+-- `crate::blank::trim_start` meets its contract. Invariant: t trimmed is s trimmed. Measure: t's length.
 -- Assumes nothing.
 use mathlib.Core.Path.{_≡_, refl, sym, _∙_}
 use Prim.Native.Nat.{_≤_}
 use native.Mathlib.Omega.{arith}
 use lib.ListN.{length}
 use borrow.Author.Needs.{needs}
-use Rattle.text.specs.Blank.{isBlank, sizeOf, trimStart}
-use Rattle.text.proofs.BlankSteps.{size-le, strip-stop, start-less, start-again}
+use Rattle.text.specs.Blank.{isBlank, trimStart}
+use Rattle.text.proofs.BlankSteps.{size-le, strip-stop, start-step, start-less}
 use Rattle.numbers.proofs.blank.trim_start.Statement.{statement}
 use Rattle.numbers.proofs.blank.trim_start.Tie as tie
 
 abbrev Inv-loop : tie.InvT-loop
-Inv-loop s t₀ k₀ t k = (length t ≤ length s) × (k ≤ length t) × (trimStart s ≡ trimStart t) × (k ≡ sizeOf isBlank t)
+Inv-loop s t₀ t = (length t ≤ length s) × (trimStart s ≡ trimStart t)
 
 abbrev μ-loop : tie.MeasureT-loop
-μ-loop s t₀ k₀ t k = length t
+μ-loop s t₀ t = length t
+
+-- the blank is part of t
+fits : (d : tie.After-blank-len Inv-loop μ-loop) → d .blank-len .result ≤ length (d .before .loop .t .now)
+fits d = omega (arith, d .blank-len .ensures, size-le isBlank refl (d .before .loop .t .now))
+
+loop-holds : tie.Need-loop-holds Inv-loop μ-loop
+loop-holds c = search needs
 
 blank-len-requires : tie.Need-blank-len-requires Inv-loop μ-loop
 blank-len-requires c κs = search needs
 
-loop-holds : tie.Need-loop-holds Inv-loop μ-loop
-loop-holds c = (search needs, omega (arith, size-le isBlank refl (c .before .before .args .s .now)), refl, c .blank-len .ensures)
+returns : tie.Need-returns Inv-loop μ-loop
+returns c =
+    let d = c .before in let l = d .before .loop in
+    sym (l .inv .1 ∙ strip-stop isBlank refl (l .t .now) (d .blank-len .result) (d .blank-len .ensures) (omega (arith, c .if1 .taken)))
 
 sub-t : tie.Need-sub-t Inv-loop μ-loop
-sub-t c = search needs
+sub-t c = omega (arith, fits (c .before))
 
 part-t-start : tie.Need-part-t-start Inv-loop μ-loop
-part-t-start c = search needs
+part-t-start c = omega (arith, fits (c .before))
 
 part-t-end : tie.Need-part-t-end Inv-loop μ-loop
 part-t-end c = search needs
 
-blank-len-requires-2 : tie.Need-blank-len-requires-2 Inv-loop μ-loop
-blank-len-requires-2 c κs = search needs
-
 loop-less : tie.Need-loop-less Inv-loop μ-loop
 loop-less c =
-    let l = c .before .before .before in
-    let i = l .loop .inv in
-    start-less (l .before .before .before .args .s .now) (l .loop .t .now) (l .loop .k) (c .blank-len2 .result) (i .0) (i .1) (c .before .before .loop-test .taken)
+    let d = c .before .before in
+    start-less (d .before .loop .t .now) (d .blank-len .result) (fits d) (omega (arith, c .before .if1 .left))
 
 loop-again : tie.Need-loop-again Inv-loop μ-loop
 loop-again c =
-    let l = c .before .before .before in
-    let i = l .loop .inv in
-    start-again (l .before .before .before .args .s .now) (l .loop .t .now) (l .loop .k) (c .blank-len2 .result) (i .0) (i .1) (c .before .before .loop-test .taken) (i .2) (i .3) (c .blank-len2 .ensures)
-
-returns : tie.Need-returns Inv-loop μ-loop
-returns c = let l = c .before .loop in sym (l .inv .2 ∙ strip-stop isBlank refl (l .t .now) (l .k) (l .inv .3) (c .loop-test .left))
+    let d = c .before .before in let l = d .before .loop in
+    let some = c .before .if1 .left in
+    (omega (arith, l .inv .0, start-less (l .t .now) (d .blank-len .result) (fits d) (omega (arith, some))), l .inv .1 ∙ start-step (l .t .now) (d .blank-len .result) (d .blank-len .ensures) (omega (arith, some)))
 
 pub trim-start-spec : {M : Type 1} → statement M
 trim-start-spec =
@@ -56,12 +57,11 @@ trim-start-spec =
     (tie.spec
     Inv-loop
     μ-loop
-    blank-len-requires
     loop-holds
+    blank-len-requires
+    returns
     sub-t
     part-t-start
     part-t-end
-    blank-len-requires-2
     loop-less
-    loop-again
-    returns)
+    loop-again)

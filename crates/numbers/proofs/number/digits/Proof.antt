@@ -2,12 +2,16 @@
 -- Measure: s's length less i.
 -- Assumes nothing.
 use mathlib.Core.Path.{_≡_, sym, ap, _∙_}
-use Prim.Native.Nat.{_+_, _-_, _≤_}
+use mathlib.Core.Bool.{true}
+use Prim.Native.Nat.{ℕ, _+_, _-_, _≤_}
 use native.Mathlib.Omega.{arith}
-use lib.ListN.{length, drop}
+use lib.ListN.{length, drop, getD}
 use borrow.Author.Needs.{needs}
+use borrow.Author.Tests.{not-true, not-false}
+use Rattle.text.specs.Class.{isDigit}
+use Rattle.text.proofs.BoolLaws.{within-low, within-high}
 use Rattle.numbers.specs.Number.{valueFrom, digitsOf, capped}
-use Rattle.numbers.proofs.NumberLaws.{some-digits, no-digits, too-low, too-high, one-more, over-least, all-read, all-over}
+use Rattle.numbers.proofs.NumberLaws.{some-digits, no-digits, no-digit, one-more, over-least, all-read, all-over}
 use Rattle.numbers.proofs.number.digits.Statement.{statement}
 use Rattle.numbers.proofs.number.digits.Tie as tie
 
@@ -16,6 +20,12 @@ Inv-loop s v₀ i₀ v i = (i ≤ length s) × (v ≤ 2147483649) × (capped (di
 
 abbrev μ-loop : tie.MeasureT-loop
 μ-loop s v₀ i₀ v i = length s - i
+
+abbrev byte : tie.Else2 Inv-loop μ-loop → ℕ
+byte d = let l = d .before .before .before .before in getD (l .before .before .before .args .s .now) (l .loop .i) 0
+
+digit : (d : tie.Else2 Inv-loop μ-loop) → isDigit (byte d) ≡ true
+digit d = sym (d .before .is-digit .ensures) ∙ not-false _ (d .if2 .left)
 
 returns : tie.Need-returns Inv-loop μ-loop
 returns c = sym (ap capped (no-digits (c .before .before .args .s .now) (c .if1 .taken)))
@@ -26,24 +36,25 @@ loop-holds c = (search needs, search needs, ap capped (some-digits (c .before .b
 shared-slice-read-c : tie.Need-shared-slice-read-c Inv-loop μ-loop
 shared-slice-read-c c = search needs
 
+is-digit-requires : tie.Need-is-digit-requires Inv-loop μ-loop
+is-digit-requires c κs = search needs
+
 returns-2 : tie.Need-returns-2 Inv-loop μ-loop
 returns-2 c =
-    let l = c .before .before .before in
-    sym (l .loop .inv .2 ∙ ap capped (too-low (l .before .before .before .args .s .now) (l .loop .i) (l .loop .v) (search needs) (c .if2 .taken)))
-
-returns-3 : tie.Need-returns-3 Inv-loop μ-loop
-returns-3 c =
     let l = c .before .before .before .before in
-    sym (l .loop .inv .2 ∙ ap capped (too-high (l .before .before .before .args .s .now) (l .loop .i) (l .loop .v) (search needs) (c .if3 .taken)))
+    sym (l .loop .inv .2 ∙ ap capped (no-digit (l .before .before .before .args .s .now) (l .loop .i) (l .loop .v) (search needs) (sym (c .before .is-digit .ensures) ∙ not-true _ (c .if2 .taken))))
 
 mul-w : tie.Need-mul-w Inv-loop μ-loop
 mul-w c = search needs
 
+sub-w : tie.Need-sub-w Inv-loop μ-loop
+sub-w c = omega (arith, within-low 48 57 (byte c) (digit c))
+
 cast-w : tie.Need-cast-w Inv-loop μ-loop
-cast-w c = search needs
+cast-w c = omega (arith, within-high 48 57 (byte c) (digit c))
 
 add-w : tie.Need-add-w Inv-loop μ-loop
-add-w c = search needs
+add-w c = omega (arith, within-high 48 57 (byte c) (digit c))
 
 least-requires : tie.Need-least-requires Inv-loop μ-loop
 least-requires c κs = search needs
@@ -61,18 +72,18 @@ loop-again c =
     let m = c .least .ensures in (
       search needs,
       omega (arith, m),
-      l .loop .inv .2 ∙ ap capped (one-more s (l .loop .i) (l .loop .v) (search needs) (search needs) (search needs)) ∙ over-least (drop (l .loop .i + 1) s) _ (c .least .result) m,
+      l .loop .inv .2 ∙ ap capped (one-more s (l .loop .i) (l .loop .v) (search needs) (digit (c .before))) ∙ over-least (drop (l .loop .i + 1) s) _ (c .least .result) m,
     )
+
+returns-3 : tie.Need-returns-3 Inv-loop μ-loop
+returns-3 c =
+    let l = c .before .before in
+    sym (l .loop .inv .2 ∙ all-over (l .before .before .before .args .s .now) (l .loop .i) (l .loop .v) (c .before .loop-test .left) (c .if3 .taken))
 
 returns-4 : tie.Need-returns-4 Inv-loop μ-loop
 returns-4 c =
     let l = c .before .before in
-    sym (l .loop .inv .2 ∙ all-over (l .before .before .before .args .s .now) (l .loop .i) (l .loop .v) (c .before .loop-test .left) (c .if4 .taken))
-
-returns-5 : tie.Need-returns-5 Inv-loop μ-loop
-returns-5 c =
-    let l = c .before .before in
-    sym (l .loop .inv .2 ∙ all-read (l .before .before .before .args .s .now) (l .loop .i) (l .loop .v) (c .before .loop-test .left) (c .if4 .left))
+    sym (l .loop .inv .2 ∙ all-read (l .before .before .before .args .s .now) (l .loop .i) (l .loop .v) (c .before .loop-test .left) (c .if3 .left))
 
 pub digits-spec : {M : Type 1} → statement M
 digits-spec =
@@ -83,14 +94,15 @@ digits-spec =
     returns
     loop-holds
     shared-slice-read-c
+    is-digit-requires
     returns-2
-    returns-3
     mul-w
+    sub-w
     cast-w
     add-w
     least-requires
     add-i
     loop-less
     loop-again
-    returns-4
-    returns-5)
+    returns-3
+    returns-4)

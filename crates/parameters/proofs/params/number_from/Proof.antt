@@ -1,66 +1,136 @@
--- `parameters::params::number_from` meets its contract: one digit, or what `digits_or_field` reads. Assumes nothing.
-use mathlib.Core.Path.{_≡_, sym, _∙_}
+-- `crate::params::number_from` meets its contract: digits up to the end or a comma, or any field. Invariant: `Ran`.
+-- Measure: s's length less end.
+-- Assumes nothing.
+use mathlib.Core.Path.{_≡_, refl, sym, _∙_}
 use mathlib.Core.Bool.{true}
-use Prim.Native.Nat.{_+_, _-_, _<_, _≤_}
+use Prim.Native.Nat.{ℕ, _+_, _-_, _*_, _<_, _≤_}
 use native.Mathlib.Omega.{arith}
 use lib.ListN.{length, getD}
+use lib.IntN.{pos}
 use mir.Syntax.{w32}
+use mir.Val.{toZ}
 use mir.Facts.{toZ-ofZ, toZ-pos}
-use Rattle.text.proofs.BoolLaws.{within-low, within-high}
-use Rattle.parameters.specs.Params.{oneDigit}
-use Rattle.parameters.proofs.PlaceLaws.{one-digit, one-inside, one-is}
 use borrow.Author.Needs.{needs}
+use Rattle.text.specs.Class.{isDigit}
+use Rattle.text.proofs.BoolLaws.{within-low, within-high}
+use Rattle.parameters.proofs.PlaceLaws.{Ran, ran-digit, plain-comma, plain-end}
 use Rattle.parameters.proofs.params.number_from.Statement.{statement}
 use Rattle.parameters.proofs.params.number_from.Tie as tie
 
-told : (c : tie.Then1) → let a = c .before .before .before .args in oneDigit (a .s .now) (a .at) ≡ true
-told c = sym (c .before .is-one-digit .ensures) ∙ c .if1 .taken
+abbrev Inv-loop : tie.InvT-loop
+Inv-loop s at default value₀ end₀ value end = Ran s at value end × (end < length s)
 
-inside : (c : tie.Then1) → let a = c .before .before .before .args in a .at + 1 < length (a .s .now)
-inside c = let a = c .before .before .before .args in one-inside (a .s .now) (a .at) (told c)
+abbrev μ-loop : tie.MeasureT-loop
+μ-loop s at default value₀ end₀ value end = length s - end
 
-low : (c : tie.Then1) → let a = c .before .before .before .args in 48 ≤ getD (a .s .now) (a .at) 0
-low c = let a = c .before .before .before .args in within-low 48 57 (getD (a .s .now) (a .at) 0) (one-digit (a .s .now) (a .at) (told c))
+-- a turn: the byte, its value behind those before it, and what it leaves
+abbrev at-loop : tie.Then2 Inv-loop μ-loop → tie.At-loop Inv-loop μ-loop
+at-loop d = d .before .before .before .before
 
-high : (c : tie.Then1) → let a = c .before .before .before .args in getD (a .s .now) (a .at) 0 ≤ 57
-high c = let a = c .before .before .before .args in within-high 48 57 (getD (a .s .now) (a .at) 0) (one-digit (a .s .now) (a .at) (told c))
+abbrev byte : tie.Then2 Inv-loop μ-loop → ℕ
+byte d = getD (at-loop d .before .before .before .args .s .now) (at-loop d .loop .end) 0
 
-is-one-digit-requires : tie.Need-is-one-digit-requires
-is-one-digit-requires c κs = search needs
+digit : (d : tie.Then2 Inv-loop μ-loop) → isDigit (byte d) ≡ true
+digit d = sym (d .before .is-digit .ensures) ∙ d .if2 .taken
 
-shared-slice-read-t6 : tie.Need-shared-slice-read-t6
-shared-slice-read-t6 c = omega (arith, inside (c .before))
+small : (d : tie.Then2 Inv-loop μ-loop) → (at-loop d .loop .value < 100000000) × (48 ≤ byte d) × (byte d ≤ 57)
+small d = (d .before .before .before .loop-test .taken, within-low 48 57 (byte d) (digit d), within-high 48 57 (byte d) (digit d))
 
-sub-t7 : tie.Need-sub-t7
-sub-t7 c = omega (arith, low (c .before))
+ran : (d : tie.Then2 Inv-loop μ-loop) → let l = at-loop d in let a = l .before .before .before .args in Ran (a .s .now) (a .at) (l .loop .value * 10 + byte d - 48) (l .loop .end + 1)
+ran d =
+    let l = at-loop d in
+    let n = small d in
+    ran-digit _ _ (l .loop .value) (l .loop .end) (l .loop .inv .0) (l .loop .inv .1) (n .0) (digit d) (omega (arith, n .1))
 
-cast-t8 : tie.Need-cast-t8
-cast-t8 c = omega (arith, high (c .before))
+cast : (d : tie.Then2 Inv-loop μ-loop) → let n = at-loop d .loop .value * 10 + byte d - 48 in toZ w32 n ≡ pos n
+cast d = toZ-pos w32 {n = at-loop d .loop .value * 10 + byte d - 48} (omega (arith, ran d .small))
 
-add-t9 : tie.Need-add-t9
-add-t9 c = omega (arith, inside (c .before))
+loop-holds : tie.Need-loop-holds Inv-loop μ-loop
+loop-holds c =
+    let h = c .if1 .taken in
+    (record { low = omega arith; high = omega arith; small = omega arith; place = refl; digits = refl }, h)
 
-returns : tie.Need-returns
-returns c =
-    let t = c .before in
-    let a = t .before .before .before .args in
-    rw (toZ-pos w32 {n = getD (a .s .now) (a .at) 0 - 48} (omega (arith, high t))) (one-is (a .s .now) (a .at) (told t) (a .default))
+shared-slice-read-is-digit : tie.Need-shared-slice-read-is-digit Inv-loop μ-loop
+shared-slice-read-is-digit c = search needs
 
-digits-or-field-requires : tie.Need-digits-or-field-requires
-digits-or-field-requires c κs = search needs
+is-digit-requires : tie.Need-is-digit-requires Inv-loop μ-loop
+is-digit-requires c κs = search needs
 
-returns-2 : tie.Need-returns-2
-returns-2 c = simp (toZ-ofZ (c .before .before .before .before .fits .default)) at (c .digits-or-field .ensures)
+mul-value : tie.Need-mul-value Inv-loop μ-loop
+mul-value c = omega (arith, small c .0)
+
+shared-slice-read-value : tie.Need-shared-slice-read-value Inv-loop μ-loop
+shared-slice-read-value c = search needs
+
+cast-value : tie.Need-cast-value Inv-loop μ-loop
+cast-value c = omega (arith, small (c .before) .2)
+
+add-value : tie.Need-add-value Inv-loop μ-loop
+add-value c = let n = small (c .before) in omega (arith, n .0, n .2)
+
+sub-value : tie.Need-sub-value Inv-loop μ-loop
+sub-value c = omega (arith, small (c .before) .1)
+
+add-end : tie.Need-add-end Inv-loop μ-loop
+add-end c = search needs
+
+cast-t19 : tie.Need-cast-t19 Inv-loop μ-loop
+cast-t19 c = omega (arith, ran (c .before .before) .small)
+
+returns : tie.Need-returns Inv-loop μ-loop
+returns c = let d = c .before .before in rw (cast d) (plain-end _ _ _ _ (ran d) _ (omega (arith, at-loop d .loop .inv .0 .low)) (c .if3 .taken))
+
+inside : (d : tie.Else3 Inv-loop μ-loop) → let l = at-loop (d .before .before) in l .loop .end + 1 < length (l .before .before .before .args .s .now)
+inside d = omega (arith, at-loop (d .before .before) .loop .inv .1, d .if3 .left)
+
+shared-slice-read-if4 : tie.Need-shared-slice-read-if4 Inv-loop μ-loop
+shared-slice-read-if4 c = inside (c .before)
+
+cast-t21 : tie.Need-cast-t21 Inv-loop μ-loop
+cast-t21 c = omega (arith, ran (c .before .before .before .before) .small)
+
+add-t22 : tie.Need-add-t22 Inv-loop μ-loop
+add-t22 c = search needs
+
+returns-2 : tie.Need-returns-2 Inv-loop μ-loop
+returns-2 c =
+    let d = c .before .before .before .before in
+    rw (cast d) (plain-comma _ _ _ _ (ran d) _ (omega (arith, at-loop d .loop .inv .0 .low)) (inside (c .before .before)) (c .if4 .taken))
+
+loop-less : tie.Need-loop-less Inv-loop μ-loop
+loop-less c = search needs
+
+loop-again : tie.Need-loop-again Inv-loop μ-loop
+loop-again c = let d = c .before .before .before .before in (ran d, inside (c .before .before))
+
+field-from-requires : tie.Need-field-from-requires Inv-loop μ-loop
+field-from-requires c κs = search needs
+
+returns-3 : tie.Need-returns-3 Inv-loop μ-loop
+returns-3 c = simp (toZ-ofZ (c .before .before .before .fits .default)) at (c .field-from .ensures)
 
 pub number-from-spec : {M : Type 1} → statement M
 number-from-spec =
     tie.close
     (tie.spec
-    is-one-digit-requires
-    shared-slice-read-t6
-    sub-t7
-    cast-t8
-    add-t9
+    Inv-loop
+    μ-loop
+    loop-holds
+    shared-slice-read-is-digit
+    is-digit-requires
+    mul-value
+    shared-slice-read-value
+    cast-value
+    add-value
+    sub-value
+    add-end
+    cast-t19
     returns
-    digits-or-field-requires
-    returns-2)
+    shared-slice-read-if4
+    cast-t21
+    add-t22
+    returns-2
+    loop-less
+    loop-again
+    field-from-requires
+    returns-3)

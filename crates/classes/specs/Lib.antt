@@ -1,0 +1,2 @@
+-- the classes of bytes and their table
+pub mod Classes
