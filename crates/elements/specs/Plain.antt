@@ -44,13 +44,13 @@ plainOf (Barcode128 e) = let b = e .barcode in
     (fields.Code128 (bars (b .orientation) (e .width) (b .height) (b .line)) (b .mode))
 plainOf (BarcodeEan13 e) = let b = e .barcode in
     plain 0x06 (e .position) (Decoded (e .«data»))
-        (fields.Bars (bars (b .orientation) (e .width) (b .height) (b .line)))
+    (fields.Bars (bars (b .orientation) (e .width) (b .height) (b .line)))
 plainOf (BarcodeEan8 e) = let b = e .barcode in
     plain 0x07 (e .position) (Decoded (e .«data»))
-        (fields.Bars (bars (b .orientation) (e .width) (b .height) (b .line)))
+    (fields.Bars (bars (b .orientation) (e .width) (b .height) (b .line)))
 plainOf (BarcodeUca e) = let b = e .barcode in
     plain 0x08 (e .position) (Decoded (e .«data»))
-        (fields.Bars (bars (b .orientation) (e .width) (b .height) (b .line)))
+    (fields.Bars (bars (b .orientation) (e .width) (b .height) (b .line)))
 plainOf (Barcode2of5 e) = let b = e .barcode in
     plain 0x09 (e .position) (Decoded (e .«data»))
     (fields.Ratio (bars (b .orientation) (e .width) (b .height) (b .line)) (b .«check_digit») (e .«width_ratio»))
@@ -64,4 +64,4 @@ plainOf (BarcodeQr e) = plain 0x0e (e .position) (Decoded (e .«data»)) (fields
 plainOf (Maxicode e) = plain 0x0f (e .position) (Decoded (e .«data»)) (fields.Maxicode (e .code))
 plainOf (BarcodeUcpe e) = let b = e .barcode in
     plain 0x10 (e .position) (Decoded (e .«data»))
-        (fields.Bars (bars (b .orientation) (e .width) (b .height) (b .line)))
+    (fields.Bars (bars (b .orientation) (e .width) (b .height) (b .line)))

@@ -41,7 +41,7 @@ barKinds =
 abbrev pub matrixKinds : List (Row ℕ)
 matrixKinds =
     row (ascii "A") 0x0c ∷ row (ascii "D") 0x0d ∷ row (ascii "M") 0x0f
-        ∷ row (ascii "P") 0x0b ∷ row (ascii "Q") 0x0e ∷ []
+    ∷ row (ascii "P") 0x0b ∷ row (ascii "Q") 0x0e ∷ []
 
 -- the type is the "fourth field of `B`", the "third of `b`", "blanks off"
 abbrev pub dataKind : DataCommand → List ℕ → ℕ

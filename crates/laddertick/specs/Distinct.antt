@@ -51,7 +51,7 @@ table =
     ∷ alone "B1,2,2,3C,4,14,5,N,\"x\"" "0a 00000065 000000ca 02 00000004 00000005 00 01 400c000000000000 00000001 78"
     -- "0b PDF417: rotation, row height, security, columns, rows, truncate flag, module width, data"
     ∷ alone "b1,2,P,o3,y7,s4,l5,r6,t1,x8\"x\""
-        "0b 00000065 000000ca 03 00000007 00000004 00000005 00000006 01 00000008 00000001 78"
+    "0b 00000065 000000ca 03 00000007 00000004 00000005 00000006 01 00000008 00000001 78"
     -- "0c Aztec: magnification, size, data; 0d Data Matrix: module, columns, rows, data"
     ∷ alone "b1,2,A,d4,e5\"x\"" "0c 00000065 000000ca 00000004 00000005 00000001 78"
     ∷ alone "b1,2,D,h4,c5,r6\"x\"" "0d 00000065 000000ca 00000004 00000005 00000006 00000001 78"
@@ -118,12 +118,12 @@ table =
     ∷ several "\u{b}GW1,2,1,2,a\nP1\n" ""
     -- "prints if something is pending, and the reference stays"; "nothing is then pending"
     ∷ several "P1\nR1,2\nLO1,2,9,4\nP1\nP\nLO1,2,9,5\nP2\n"
-        "0000000001\n02 00000002 00000004 00000009 00000004 00000004 00\n0000000001\n02 00000002 00000004 00000009 00000005 00000005 00\n"
+    "0000000001\n02 00000002 00000004 00000009 00000004 00000004 00\n0000000001\n02 00000002 00000004 00000009 00000005 00000005 00\n"
     -- "within signed 32 bits, else its default"; "Unicode blanks off", as c2 a0
     ∷ several "LO2147483648,-2147483649,+9,Â\u{a0}4 \nP1\n"
-        "0000000001\n02 00000000 00000000 00000009 00000004 00000004 00\n"
+    "0000000001\n02 00000000 00000000 00000009 00000004 00000004 00\n"
     ∷ several "LO2147483647,-2147483648,12O,- 4\nP1\n"
-        "0000000001\n02 7fffffff 80000000 00000001 00000001 00000001 00\n"
+    "0000000001\n02 7fffffff 80000000 00000001 00000001 00000001 00\n"
     -- "4 `LO`/`LW`/`LE`, .. with too few fields"
     ∷ case "LEFT JAR" (refused 4 0 fresh ∷ [])
     -- "13 a sum with the reference": of x, of y

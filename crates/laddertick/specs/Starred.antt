@@ -68,16 +68,16 @@ table =
     ∷ case "R1,2\nR-1" (ended (state 8 (point 1 2) 0) ∷ [])
     -- "`N` alone drops pending elements and sets the reference to 0,0."
     ∷ case "R1,2\nLO1,2,3,4\nN\nLO1,2,3,4"
-        (element (box (point 2 4) 3 4 3) (state 15 (point 1 2) 1) ∷ cleared (state 17 origin 0)
-        ∷ alone 26 (box (point 1 2) 3 4 3))
+    (element (box (point 2 4) 3 4 3) (state 15 (point 1 2) 1) ∷ cleared (state 17 origin 0)
+    ∷ alone 26 (box (point 1 2) 3 4 3))
     -- "`P1,1` isn't a print line.": the end prints both boxes as one label, where `P1` prints the first before the
     -- second is read
     ∷ case "LO1,2,3,4\nP1,1\nLO5,6,7,8\n"
-        (element (box (point 1 2) 3 4 3) (state 10 origin 1) ∷ element (box (point 5 6) 7 8 7) (state 25 origin 2)
-        ∷ closes 25 2)
+    (element (box (point 1 2) 3 4 3) (state 10 origin 1) ∷ element (box (point 5 6) 7 8 7) (state 25 origin 2)
+    ∷ closes 25 2)
     ∷ case "LO1,2,3,4\nP1\nLO5,6,7,8\n"
-        (element (box (point 1 2) 3 4 3) (state 10 origin 1) ∷ printed 1 tt (state 13 origin 0)
-        ∷ alone 23 (box (point 5 6) 7 8 7))
+    (element (box (point 1 2) 3 4 3) (state 10 origin 1) ∷ printed 1 tt (state 13 origin 0)
+    ∷ alone 23 (box (point 5 6) 7 8 7))
     -- "`A1,2,0,1,1,1,,"x"`: refused 1."
     ∷ case "A1,2,0,1,1,1,,\"x\"" (refused 1 0 fresh ∷ [])
     -- "`N` in the seventh field: height 12, width 12. With multipliers 2,1: height 12, width 16."
@@ -108,7 +108,7 @@ table =
     ∷ normal " GW1,2,1,3,a\n N\n" " GW1,2,1,3,a\n \nN\n"
     -- the worked example: "`R10,20`, `LO5,6,30,4`, `P1`, each with LF"
     ∷ case "R10,20\nLO5,6,30,4\nP1\n"
-        (element (box (point 15 26) 30 4 4) (state 18 (point 10 20) 1) ∷ printed 1 tt (state 21 (point 10 20) 0)
-        ∷ ended (state 21 (point 10 20) 0) ∷ [])
+    (element (box (point 15 26) 30 4 4) (state 18 (point 10 20) 1) ∷ printed 1 tt (state 21 (point 10 20) 0)
+    ∷ ended (state 21 (point 10 20) 0) ∷ [])
     ∷ listing "R10,20\nLO5,6,30,4\nP1\n" "0000000001\n020000000f0000001a0000001e000000040000000400\n"
     ∷ []

@@ -42,6 +42,6 @@ pub use elements::walk_state::WalkState;
 pub use elements::walk_state::start;
 pub use format::normalise::normalise;
 pub use frames::listing::list;
-pub use walk::answer::Printed;
 pub use walk::answer::Answer;
+pub use walk::answer::Printed;
 pub use walk::step::step;

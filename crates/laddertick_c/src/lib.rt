@@ -10,7 +10,6 @@ ghost use Rattle.frames.specs.Listing as listing;
 ghost use Rattle.elements.specs.Walk.{fresh};
 ghost use Rattle.walk.specs.Steps.{stateOf};
 ghost use Rattle.flat.specs.Steps.{flatOf};
-
 use decoding::data::decode;
 use elements::DataSpan;
 use flat::answer::FlatAnswer;

@@ -77,4 +77,4 @@ module _ (L : Language) (F : Type 0) (frame : List ℕ → L .E → F) where
         → act r u ≡ outside n → Fails s at r p n at
     later : {u : U} {s rest : List ℕ} {at : ℕ} {r r′ : R} {p p′ : List F} {ls : List (Label F P)} {n q : ℕ}
         → s ≡ bytes u ++ rest → L .Stands u rest → effect r p u (act r u) ≡ goes ls r′ p′
-            → Fails rest (at + length (bytes u)) r′ p′ n q → Fails s at r p n q
+        → Fails rest (at + length (bytes u)) r′ p′ n q → Fails s at r p n q
