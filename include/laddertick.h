@@ -111,7 +111,11 @@ typedef struct laddertick_element {
     int32_t magnification; /* Aztec 1 to 55, QR 1 to 100 */
     int32_t size;          /* Aztec: the file's number, which says error correction or layers; 0 where the encoder chooses */
     int32_t mode;          /* Code 128: 1 UCC, 2 automatic, 3 EAN; MaxiCode: 2, 3, 4 or 6 */
-    double text_height;    /* text: the cell's height and width */
+    int32_t font;          /* text: the font's number as the file says, any number, 1 where it says none; all but 2 to 5 have the cell of font 1 */
+    int32_t horizontal;    /* text: the multipliers, at least 1 */
+    int32_t vertical;
+    int32_t wide;       /* 2 of 5, Code 39: the wide bar as the file says, any number, 2 where it says none */
+    double text_height; /* text: the cell's height and width, which are those of its font and multipliers */
     double text_width;
     double ratio;      /* 2 of 5, Code 39: wide bar to narrow bar, at least 2 */
     size_t data_start; /* text, graphic, bar codes: where the data stands in the input, always inside it, and its bytes there. A graphic's are its dots, row by row, as the */

@@ -25,7 +25,7 @@ static void put_bars(laddertick_element e)
     if (e.kind == LADDERTICK_CODE_128)
         printf(", mode %s", MODES[e.mode]);
     if (e.kind == LADDERTICK_2_OF_5 || e.kind == LADDERTICK_CODE_39)
-        printf(", ratio %.17g%s", e.ratio, e.check ? ", check digit" : "");
+        printf(", wide %" PRId32 ", ratio %.17g%s", e.wide, e.ratio, e.check ? ", check digit" : "");
     if (e.line)
         fputs(", with text below", stdout);
 }
@@ -38,7 +38,8 @@ static void explain(const char *name, bytes input, laddertick_element e, size_t 
         printf(", turned %d", 90 * e.rotation);
     switch (e.kind) {
     case LADDERTICK_TEXT:
-        printf(", height %.17g, width %.17g%s", e.text_height, e.text_width, e.reverse ? ", white on black" : "");
+        printf(", font %" PRId32 ", %" PRId32 " by %" PRId32 ", height %.17g, width %.17g%s", e.font, e.horizontal, e.vertical, e.text_height, e.text_width,
+               e.reverse ? ", white on black" : "");
         break;
     case LADDERTICK_BOX:
         printf(", %" PRId32 " by %" PRId32 ", thickness %" PRId32 "%s", e.width, e.height, e.thickness, COLOURS[e.colour]);

@@ -9,7 +9,7 @@ mod steps;
 
 use compare::{compare, Lent};
 use inputs::Maker;
-use oracle::masked;
+use oracle::{fields, masked};
 use oracle::panics::Cause;
 use oracle::{Answer, LIMIT};
 use std::sync::atomic::{AtomicUsize, Ordering::Relaxed};
@@ -39,6 +39,7 @@ fn main() {
     let by_number: Vec<_> = (1..=14).chain([19]).map(|n| format!("{n}: {}", count(&run.refused[n]))).collect();
     eprintln!("refused by number: {}", by_number.join(", "));
     eprintln!("with LE lines: {}", count(&run.exclusive_or));
+    eprintln!("with fields that the Rust has not: {}", count(&run.fields));
     let (cases, differences, accepted) = (count(&run.cases), count(&run.differences), count(&run.accepted));
     let refused: usize = run.refused.iter().map(count).sum();
     let [position, size, kind, maxicode] = [0, 1, 2, 3].map(|i| count(&run.panics[i]));
@@ -60,6 +61,8 @@ struct Run {
     accepted: AtomicUsize,
     /// With `LE` lines, which the Rust was asked about under other letters.
     exclusive_or: AtomicUsize,
+    /// With fields that the Rust has not, which were left out of the frames and held to the definition.
+    fields: AtomicUsize,
     /// By 01's number.
     refused: [AtomicUsize; 20],
     /// By cause: 13; 19; 7, 8 or 9; MaxiCode.
@@ -90,10 +93,13 @@ impl Run {
         if !masked::exclusive_or(input).is_empty() {
             self.exclusive_or.fetch_add(1, Relaxed);
         }
-        match expected {
-            Answer::Refused(number, _) => self.refused[number as usize].fetch_add(1, Relaxed),
+        match &expected {
+            Answer::Refused(number, _) => self.refused[*number as usize].fetch_add(1, Relaxed),
             _ => self.accepted.fetch_add(1, Relaxed),
         };
+        if matches!(&expected, Answer::Labels(listing) if fields::are_in(listing)) {
+            self.fields.fetch_add(1, Relaxed);
+        }
         if let Some(cause) = cause {
             let kind = [Cause::Position, Cause::Size, Cause::TypeOrSize, Cause::Maxicode].iter().position(|&c| c == cause);
             self.panics[kind.unwrap()].fetch_add(1, Relaxed);
@@ -102,7 +108,7 @@ impl Run {
         if let Err(wrong) = compare(lent, input, &expected) {
             if self.differences.fetch_add(1, Relaxed) < SHOWN {
                 let (input, wrong) = cut_down(lent, input, wrong);
-                let expected = masked::answer(&input).0.lines();
+                let expected = fields::told(&input, &masked::answer(&input).0).lines();
                 let text = format!("input: \"{}\"\nexpected:\n{expected}ours, {wrong}\n", input.escape_ascii());
                 println!("{}", text.get(..LONGEST_REPORT).unwrap_or(&text));
             }

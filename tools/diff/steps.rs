@@ -69,6 +69,7 @@ fn frame(input: &[u8], e: &mut Element) -> Vec<u8> {
     match kind {
         1 => {
             flags(&mut f, [&mut e.rotation, &mut e.reverse]);
+            numbers(&mut f, [&mut e.font, &mut e.horizontal, &mut e.vertical]);
             sizes(&mut f, [&mut e.text_height, &mut e.text_width]);
         }
         2 | 3 => {
@@ -88,6 +89,7 @@ fn frame(input: &[u8], e: &mut Element) -> Vec<u8> {
                 5 => f.push(take(&mut e.mode) as u8),
                 9 | 10 => {
                     flags(&mut f, [&mut e.check]);
+                    numbers(&mut f, [&mut e.wide]);
                     sizes(&mut f, [&mut e.ratio]);
                 }
                 _ => {}

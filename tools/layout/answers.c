@@ -22,7 +22,8 @@ typedef struct one {
 
 static const one CASES[] = {
     {"A1,2,3,4,5,6,R,\"seven77\"\n",
-     ELEMENT(1, 25, .rotation = 3, .reverse = 1, .x = 101, .y = 202, .text_height = 144, .text_width = 70, .data_start = 29 + 16, .data_len = 7)},
+     ELEMENT(1, 25, .rotation = 3, .reverse = 1, .x = 101, .y = 202, .font = 4, .horizontal = 5, .vertical = 6, .text_height = 144, .text_width = 70, .data_start = 29 + 16,
+             .data_len = 7)},
     {"LW1,2,4,3\n", ELEMENT(2, 10, .colour = 1, .x = 101, .y = 202, .width = 4, .height = 3, .thickness = 3)},
     {"LE1,2,4,3\n", ELEMENT(2, 10, .colour = 2, .x = 101, .y = 202, .width = 4, .height = 3, .thickness = 3)},
     {"X1,2,7,31,42\n", ELEMENT(2, 13, .x = 101, .y = 202, .width = 30, .height = 40, .thickness = 7)},
@@ -37,9 +38,9 @@ static const one CASES[] = {
     {"B1,2,3,UA0,4,5,6,B,\"hello\"\n",
      ELEMENT(8, 27, .rotation = 3, .line = 1, .x = 101, .y = 202, .width = 4, .height = 6, .data_start = 29 + 20, .data_len = 5)},
     {"B1,2,3,2C,4,10,6,N,\"hello\"\n",
-     ELEMENT(9, 27, .rotation = 3, .check = 1, .x = 101, .y = 202, .width = 4, .height = 6, .ratio = 2.5, .data_start = 29 + 20, .data_len = 5)},
+     ELEMENT(9, 27, .rotation = 3, .check = 1, .x = 101, .y = 202, .width = 4, .height = 6, .wide = 10, .ratio = 2.5, .data_start = 29 + 20, .data_len = 5)},
     {"B1,2,3,3,4,14,6,B,\"hello\"\n",
-     ELEMENT(10, 26, .rotation = 3, .line = 1, .x = 101, .y = 202, .width = 4, .height = 6, .ratio = 3.5, .data_start = 29 + 19, .data_len = 5)},
+     ELEMENT(10, 26, .rotation = 3, .line = 1, .x = 101, .y = 202, .width = 4, .height = 6, .wide = 14, .ratio = 3.5, .data_start = 29 + 19, .data_len = 5)},
     {"b1,2,P,o3,y17,s4,l5,r6,t1,x8\"seven77\"\n",
      ELEMENT(11, 38, .rotation = 3, .truncate = 1, .x = 101, .y = 202, .width = 8, .height = 17, .security = 4, .columns = 5, .rows = 6, .data_start = 29 + 29, .data_len = 7)},
     {"b1,2,A,d44,e99\"hello\"\n", ELEMENT(12, 22, .x = 101, .y = 202, .magnification = 44, .size = 99, .data_start = 29 + 15, .data_len = 5)},

@@ -28,7 +28,8 @@ impl Element<'_> {
 /// The kind of an element and its numbers. Sizes are in dots, rotations in quarter turns, 0 to 3.
 #[derive(Clone, Debug, PartialEq)]
 pub enum Kind {
-    Text { rotation: u8, reverse: bool, height: f64, width: f64 },
+    /// The height and the width are those that the scale gives.
+    Text { rotation: u8, reverse: bool, scale: Scale, height: f64, width: f64 },
     /// A box, or a line that is one.
     Box { width: i32, height: i32, thickness: i32, colour: Colour },
     /// It falls from top left to bottom right (a point does too), or rises from bottom left to top right, or is horizontal or vertical.
@@ -40,9 +41,9 @@ pub enum Kind {
     Ean8(Bars),
     UpcA(Bars),
     UpcE(Bars),
-    /// The ratio is that of a wide bar to a narrow one.
-    Interleaved2of5 { bars: Bars, check: bool, ratio: f64 },
-    Code39 { bars: Bars, check: bool, ratio: f64 },
+    /// The wide bar is the file's number, 0 and below too; the ratio is that of it to the narrow one, at least 2.
+    Interleaved2of5 { bars: Bars, check: bool, wide: i32, ratio: f64 },
+    Code39 { bars: Bars, check: bool, wide: i32, ratio: f64 },
     /// Security -1, columns 0 and rows 0: the encoder chooses.
     Pdf417 { rotation: u8, row_height: i32, security: i32, columns: i32, rows: i32, truncate: bool, module_width: i32 },
     Aztec { magnification: i32, size: i32 },
@@ -57,6 +58,16 @@ pub enum Colour {
     Black,
     White,
     ExclusiveOr,
+}
+
+/// What a text is set from.
+#[derive(Clone, Copy, Debug, PartialEq, Eq)]
+pub struct Scale {
+    /// The file's number; all but 2 to 5 have the sizes of font 1.
+    pub font: i32,
+    /// The multipliers, at least 1.
+    pub horizontal: i32,
+    pub vertical: i32,
 }
 
 /// What all bar codes with bars have.
@@ -90,9 +101,12 @@ pub enum QrLevel {
 /// The element of an answer of kind 1 to 16.
 pub(crate) fn element(input: &[u8], e: raw::Element) -> Element<'_> {
     let bars = Bars { rotation: e.rotation, narrow: e.width, height: e.height, line: e.line != 0 };
-    let (check, ratio) = (e.check != 0, e.ratio);
+    let (check, wide, ratio) = (e.check != 0, e.wide, e.ratio);
     let kind = match e.kind {
-        1 => Kind::Text { rotation: e.rotation, reverse: e.reverse != 0, height: e.text_height, width: e.text_width },
+        1 => {
+            let scale = Scale { font: e.font, horizontal: e.horizontal, vertical: e.vertical };
+            Kind::Text { rotation: e.rotation, reverse: e.reverse != 0, scale, height: e.text_height, width: e.text_width }
+        }
         2 => Kind::Box { width: e.width, height: e.height, thickness: e.thickness, colour: colour(e.colour) },
         3 => Kind::Diagonal { width: e.width, height: e.height, thickness: e.thickness, falls: e.direction != 0 },
         4 => Kind::Graphic { row_bytes: e.row_bytes },
@@ -100,8 +114,8 @@ pub(crate) fn element(input: &[u8], e: raw::Element) -> Element<'_> {
         6 => Kind::Ean13(bars),
         7 => Kind::Ean8(bars),
         8 => Kind::UpcA(bars),
-        9 => Kind::Interleaved2of5 { bars, check, ratio },
-        10 => Kind::Code39 { bars, check, ratio },
+        9 => Kind::Interleaved2of5 { bars, check, wide, ratio },
+        10 => Kind::Code39 { bars, check, wide, ratio },
         11 => Kind::Pdf417 {
             rotation: e.rotation,
             row_height: e.height,

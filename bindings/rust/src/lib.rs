@@ -19,7 +19,7 @@ mod refused;
 mod walk;
 mod write;
 
-pub use element::{BarMode, Bars, Colour, Element, Kind, QrLevel};
+pub use element::{BarMode, Bars, Colour, Element, Kind, QrLevel, Scale};
 pub use refused::Refused;
 pub use walk::{labels, steps, Label, Labels, Step, Steps};
 use write::write;

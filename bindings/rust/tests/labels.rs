@@ -1,6 +1,6 @@
 //! Answers that the scope document gives, through the safe crate.
 
-use laddertick::{labels, list, normalise, steps, BarMode, Bars, Colour, Element, Kind, Label, QrLevel, Refused, Step, LONGEST};
+use laddertick::{labels, list, normalise, steps, BarMode, Bars, Colour, Element, Kind, Label, QrLevel, Refused, Scale, Step, LONGEST};
 
 /// The one element of a file with one label.
 fn one(file: &[u8]) -> Element<'_> {
@@ -29,8 +29,10 @@ fn the_worked_example() {
 #[test]
 fn every_kind() {
     let bars = |rotation, narrow, height, line| Bars { rotation, narrow, height, line };
-    let cases: [(&[u8], Kind, Option<&str>); 18] = [
-        (b"A1,2,1,1,2,1,R,\"x\"", Kind::Text { rotation: 1, reverse: true, height: 12.0, width: 16.0 }, Some("x")),
+    let scale = |font, horizontal, vertical| Scale { font, horizontal, vertical };
+    let cases: [(&[u8], Kind, Option<&str>); 20] = [
+        (b"A1,2,1,3,4,2,R,\"x\"", Kind::Text { rotation: 1, reverse: true, scale: scale(3, 4, 2), height: 40.0, width: 48.0 }, Some("x")),
+        (b"A1,2,0,0,,-7,N,\"x\"", Kind::Text { rotation: 0, reverse: false, scale: scale(0, 1, 1), height: 12.0, width: 12.0 }, Some("x")),
         (b"LW1,2,3,4", Kind::Box { width: 3, height: 4, thickness: 3, colour: Colour::White }, None),
         (b"LE1,2,3,4", Kind::Box { width: 3, height: 4, thickness: 3, colour: Colour::ExclusiveOr }, None),
         (b"X1,2,5,11,22", Kind::Box { width: 10, height: 20, thickness: 5, colour: Colour::Black }, None),
@@ -41,8 +43,9 @@ fn every_kind() {
         (b"B1,2,0,E80,2,2,9,N,\"x\"", Kind::Ean8(bars(0, 2, 9, false)), Some("x")),
         (b"B1,2,0,UA0,2,2,9,N,\"x\"", Kind::UpcA(bars(0, 2, 9, false)), Some("x")),
         (b"B1,2,0,UE0,2,2,9,N,\"x\"", Kind::UpcE(bars(0, 2, 9, false)), Some("x")),
-        (b"B1,2,0,2C,2,5,9,N,\"x\"", Kind::Interleaved2of5 { bars: bars(0, 2, 9, false), check: true, ratio: 2.5 }, Some("x")),
-        (b"B1,2,0,3,2,3,9,N,\"x\"", Kind::Code39 { bars: bars(0, 2, 9, false), check: false, ratio: 2.0 }, Some("x")),
+        (b"B1,2,0,2C,2,5,9,N,\"x\"", Kind::Interleaved2of5 { bars: bars(0, 2, 9, false), check: true, wide: 5, ratio: 2.5 }, Some("x")),
+        (b"B1,2,0,3,2,-5,9,N,\"x\"", Kind::Code39 { bars: bars(0, 2, 9, false), check: false, wide: -5, ratio: 2.0 }, Some("x")),
+        (b"B1,2,0,3C,,,9,N,\"x\"", Kind::Code39 { bars: bars(0, 1, 9, false), check: true, wide: 2, ratio: 2.0 }, Some("x")),
         (
             b"b1,2,P,600,300,s3,l4,r30,x2,y6,\"x\"",
             Kind::Pdf417 { rotation: 0, row_height: 6, security: 3, columns: 4, rows: 30, truncate: false, module_width: 2 },

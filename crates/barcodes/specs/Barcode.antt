@@ -101,7 +101,7 @@ code128 m b =
       «data» = b .«data»;
     }))
 
--- 2 of 5 and Code 39 with their check and the ratio
+-- 2 of 5 and Code 39 with their check, the wide bar as its field has it, and the ratio
 unfoldable pub interleaved : Bool → Barcode → LineReading
 interleaved c b =
     reading.Element
@@ -110,6 +110,7 @@ interleaved c b =
       barcode =
           record { orientation = b .orientation; height = b .bars .height; line = b .bars .line; «check_digit» = c };
       width = b .bars .narrow;
+      wide = b .bars .wide;
       «width_ratio» = ratioOf (b .bars .wide) (b .bars .narrow);
       position = b .position;
       «data» = b .«data»;
@@ -123,6 +124,7 @@ code39 c b =
       barcode =
           record { orientation = b .orientation; height = b .bars .height; line = b .bars .line; «check_digit» = c };
       width = b .bars .narrow;
+      wide = b .bars .wide;
       «width_ratio» = ratioOf (b .bars .wide) (b .bars .narrow);
       position = b .position;
       «data» = b .«data»;

@@ -75,7 +75,7 @@ module _ (k : ℕ) where
   text-later s d r =
       let f = textFields s in
       later-cond (ltb (length (fields s)) 7) _ _ _ _ refl
-      (later-text f d (placed (f .at .x) (f .at .y) r) (fontOf (f .font) (f .scale .«h_mult») (f .scale .«v_mult») (f .rotation)))
+      (later-text f d (placed (f .at .x) (f .at .y) r) (fontOf (f .scale .font) (f .scale .horizontal) (f .scale .vertical) (f .rotation)))
 
   -- `B`
   later-barcode : (y : Symbology) (b : Barcode) → Later (barcodeElement y (record { orientation = b .orientation; bars = b .bars; position = b .position; «data» = later k (b .«data») })) (barcodeElement y b)

@@ -1,13 +1,14 @@
 -- The sizes of frames (`fields-size`, `frame-size`, `frame-le`), frames as they are put (`frame-told`), and that a
 -- frame depends on its data alone (`frame-local`). Laws of `part` are in FramePartLaws. Assumes nothing.
 use mathlib.Core.Path.{_≡_, refl, sym, ap, _∙_}
-use mathlib.Core.List.{List, [], _++_}
+use mathlib.Core.List.{List, _++_}
 use Prim.Native.Nat.{ℕ, _+_, _*_, _≤_}
 use native.Mathlib.Omega.{arith}
 use lib.ListN.{length, length-append}
 use Rattle.text.specs.Utf8.{decode}
 use Rattle.text.proofs.Utf8Laws.{length-decode-le}
 use Rattle.elements.specs.declared.LabelElement.{LabelElement}
+use Rattle.elements.specs.declared.LabelElement.the-variants as element
 use Rattle.elements.specs.declared.LabelPosition.{LabelPosition}
 use Rattle.elements.specs.declared.plain.Data.{Data}
 use Rattle.elements.specs.declared.plain.Data.the-variants.{NoData, Payload, Decoded}
@@ -15,9 +16,9 @@ use Rattle.elements.specs.declared.plain.Fields.{Fields}
 use Rattle.elements.specs.declared.plain.Fields.the-variants.{Text, Box, Diagonal, Graphic, Code128, Bars, Ratio, Pdf417, Aztec, Datamatrix, Qr, Maxicode}
 use Rattle.elements.specs.declared.plain.Plain.{Plain}
 use Rattle.elements.specs.Plain.{plainOf}
-use Rattle.elements.specs.Spans.{later, shifted, spansIn, spans, AllIn, In}
+use Rattle.elements.specs.Spans.{later, shifted, spansIn, AllIn, In}
 use Rattle.elements.proofs.PlainLaws.{onData, plain-on-span}
-use Rattle.element_frames.specs.Frame.{be32, part, head, extentBytes, barBytes, rowBytes, fieldBytes, dataBytes, plainFrame, frameOf, lens, dataLen}
+use Rattle.element_frames.specs.Frame.{be32, part, head, extentBytes, barBytes, rowBytes, scaleBytes, fieldBytes, dataBytes, plainFrame, frameOf}
 use Rattle.element_frames.specs.Put.{PutHex}
 use Rattle.element_frames.proofs.PutLaws.{whole, retold}
 use Rattle.element_frames.proofs.FramePartLaws.{part-le, part-in, decode-part-le, part-local}
@@ -25,28 +26,28 @@ use Rattle.element_frames.proofs.FramePartLaws.{part-le, part-in, decod
 -- ---- fields
 -- how many bytes they are
 abbrev pub fieldSize : Fields → ℕ
-fieldSize (Text r f) = 18
+fieldSize (Text r s f) = 30
 fieldSize (Box x c) = 13
 fieldSize (Diagonal x d) = 13
 fieldSize (Graphic n) = 4
 fieldSize (Code128 b m) = 11
 fieldSize (Bars b) = 10
-fieldSize (Ratio b c r) = 19
+fieldSize (Ratio b c w r) = 23
 fieldSize (Pdf417 b) = 22
 fieldSize (Aztec b) = 8
 fieldSize (Datamatrix b) = 12
 fieldSize (Qr b l) = 5
 fieldSize (Maxicode c) = 4
 
-length-fields : (f : Fields) → (length (fieldBytes f) ≡ fieldSize f) × (fieldSize f ≤ 22)
-unfolding be32 extentBytes barBytes rowBytes fieldBytes
-length-fields (Text r f) = (refl, omega arith)
+length-fields : (f : Fields) → (length (fieldBytes f) ≡ fieldSize f) × (fieldSize f ≤ 30)
+unfolding be32 extentBytes barBytes rowBytes scaleBytes fieldBytes
+length-fields (Text r s f) = (refl, omega arith)
 length-fields (Box x c) = (refl, omega arith)
 length-fields (Diagonal x d) = (refl, omega arith)
 length-fields (Graphic n) = (refl, omega arith)
 length-fields (Code128 b m) = (refl, omega arith)
 length-fields (Bars b) = (refl, omega arith)
-length-fields (Ratio b c r) = (refl, omega arith)
+length-fields (Ratio b c w r) = (refl, omega arith)
 length-fields (Pdf417 b) = (refl, omega arith)
 length-fields (Aztec b) = (refl, omega arith)
 length-fields (Datamatrix b) = (refl, omega arith)
@@ -83,7 +84,13 @@ module _ (s : List ℕ) {d x : Data} (h : d ≡ x) where
       → PutHex n l at (dataBytes s d) (length (dataBytes s d)) r
   data-told p = whole (retold (ap (dataBytes s) (sym h)) p)
 
-data-le : (s : List ℕ) (d : Data) → length (dataBytes s d) ≤ 8 + 3 * lens (spansIn d)
+-- a byte that is decoded is at most three
+abbrev dataMost : Data → ℕ
+dataMost NoData = 0
+dataMost (Payload d) = 8 + d .len
+dataMost (Decoded d) = 4 + 3 * d .len
+
+data-le : (s : List ℕ) (d : Data) → length (dataBytes s d) ≤ dataMost d
 data-le s NoData = omega arith
 data-le s (Payload d) = omega (arith, length-data s (Payload d), part-le s d)
 data-le s (Decoded d) = omega (arith, length-data s (Decoded d), decode-part-le s d)
@@ -127,26 +134,48 @@ module _ (s : List ℕ) (e : LabelElement) {p : Plain} (h : p ≡ plainOf e) whe
   unfolding frameOf
   frame-told q = whole (retold (ap (plainFrame s) h) q)
 
-pub frame-le : (s : List ℕ) (e : LabelElement) → length (frameOf s e) ≤ 39 + 3 * dataLen e
-frame-le s e =
-    let f = length-fields (plainOf e .fields) in
-    omega (arith, length-frame s e, f .0, f .1, data-le s (plainOf e .«data»))
+-- at most so many bytes, by the data: a box or a diagonal; a graphic; a text, which of all that is decoded has the most
+-- fields
+abbrev pub frameMost : Data → ℕ
+frameMost NoData = 22
+frameMost (Payload d) = 21 + d .len
+frameMost (Decoded d) = 43 + 3 * d .len
 
-pub frame-in : (s : List ℕ) (e : LabelElement) → length (frameOf s e) ≤ 39 + 3 * length s
+-- kind by kind
+kind-le : (e : LabelElement) → 9 + fieldSize (plainOf e .fields) + dataMost (plainOf e .«data») ≤ frameMost (plainOf e .«data»)
+kind-le (element.Text e) = omega arith
+kind-le (element.GraphicBox e) = omega arith
+kind-le (element.DiagonalLine e) = omega arith
+kind-le (element.GraphicField e) = omega arith
+kind-le (element.Barcode128 e) = omega arith
+kind-le (element.BarcodeEan13 e) = omega arith
+kind-le (element.BarcodeEan8 e) = omega arith
+kind-le (element.BarcodeUca e) = omega arith
+kind-le (element.Barcode2of5 e) = omega arith
+kind-le (element.Barcode39 e) = omega arith
+kind-le (element.BarcodePdf417 e) = omega arith
+kind-le (element.BarcodeAztec e) = omega arith
+kind-le (element.BarcodeDatamatrix e) = omega arith
+kind-le (element.BarcodeQr e) = omega arith
+kind-le (element.Maxicode e) = omega arith
+kind-le (element.BarcodeUcpe e) = omega arith
+
+pub frame-le : (s : List ℕ) (e : LabelElement) → length (frameOf s e) ≤ frameMost (plainOf e .«data»)
+frame-le s e = omega (arith, length-frame s e, length-fields (plainOf e .fields) .0, data-le s (plainOf e .«data»), kind-le e)
+
+-- wherever the data stands
+most-on : (n : ℕ) (d : Data) → frameMost (onData (later n) d) ≡ frameMost d
+most-on n NoData = refl
+most-on n (Payload d) = refl
+most-on n (Decoded d) = refl
+
+pub most-shifted : (n : ℕ) (e : LabelElement) → frameMost (plainOf (shifted n e) .«data») ≡ frameMost (plainOf e .«data»)
+most-shifted n e = ap (λ (p : Plain). frameMost (p .«data»)) (plain-on-span (later n) e) ∙ most-on n (plainOf e .«data»)
+
+pub frame-in : (s : List ℕ) (e : LabelElement) → length (frameOf s e) ≤ 47 + 3 * length s
 frame-in s e =
     let f = length-fields (plainOf e .fields) in
     omega (arith, length-frame s e, f .0, f .1, data-in s (plainOf e .«data»))
-
--- a frame with no data
-pub frame-plain : (s : List ℕ) (e : LabelElement) → spans e ≡ [] → length (frameOf s e) ≤ 31
-frame-plain s e h =
-    let f = length-fields (plainOf e .fields) in
-    omega (arith, length-frame s e, f .0, f .1, none (plainOf e .«data») h)
-  where
-    none : (d : Data) → spansIn d ≡ [] → length (dataBytes s d) ≡ 0
-    none NoData h = refl
-    none (Payload d) h = absurd (let z : _≡_ {A = ℕ} 0 1 = cc in omega arith)
-    none (Decoded d) h = absurd (let z : _≡_ {A = ℕ} 0 1 = cc in omega arith)
 
 -- a frame depends on the bytes where the element's data lies and on no others
 pub frame-local : (pre x post : List ℕ) (e : LabelElement) → In (length x) e

@@ -5,7 +5,6 @@ use Prim.Native.Nat.{ℕ, _+_, _/_, _%_}
 use lib.IntN.{ℤ}
 use lib.Ieee.{Float, binary64, toBits}
 use lib.ListN.{length, take, drop}
-use Rattle.elements.specs.Spans.{spans}
 use Rattle.numbers.specs.Int.{twos}
 use Rattle.text.specs.Utf8.{decode}
 use Rattle.elements.specs.declared.BarcodeMode.{BarcodeMode}
@@ -16,6 +15,7 @@ use Rattle.elements.specs.declared.QrErrorCorrectionLevel.the-variants.{H, Q, M
 use Rattle.elements.specs.declared.DataSpan.{DataSpan}
 use Rattle.elements.specs.declared.FieldOrientation.{FieldOrientation}
 use Rattle.elements.specs.declared.FieldOrientation.the-variants.{Normal, Rotated90, Rotated180, Rotated270}
+use Rattle.elements.specs.declared.FontScale.{FontScale}
 use Rattle.elements.specs.declared.LabelElement.{LabelElement}
 use Rattle.elements.specs.declared.LabelPosition.{LabelPosition}
 use Rattle.elements.specs.declared.LineColor.{LineColor}
@@ -105,10 +105,15 @@ barBytes b = rotation (b .orientation) ∷ number (b .narrow) ++ number (b .heig
 unfoldable pub rowBytes : BarcodePdf417 → List ℕ
 rowBytes b = number (b .«row_height») ++ number (b .security) ++ number (b .columns) ++ number (b .rows)
 
+-- "font, horizontal and vertical multiplier"
+unfoldable pub scaleBytes : FontScale → List ℕ
+scaleBytes s = number (s .font) ++ number (s .horizontal) ++ number (s .vertical)
+
 -- what follows, before the data
 unfoldable pub fieldBytes : Fields → List ℕ
--- "01 text: rotation flag (0 to 3), reverse flag, height and width f64, data"
-fieldBytes (Text reverse f) = rotation (f .rotation) ∷ flag reverse ∷ float (f .height) ++ float (f .width)
+-- "01 text: rotation flag (0 to 3), reverse flag, font, horizontal and vertical multiplier, height and width f64, data"
+fieldBytes (Text reverse s f) =
+    rotation (f .rotation) ∷ flag reverse ∷ scaleBytes s ++ float (f .height) ++ float (f .width)
 -- "02 box: width, height, thickness, colour flag (0 black, 1 white, 2 exclusive-OR);
 -- 03 diagonal: width, height, thickness, direction flag"
 fieldBytes (Box x c) = extentBytes x ++ (colour c ∷ [])
@@ -119,8 +124,8 @@ fieldBytes (Graphic n) = number n
 fieldBytes (Code128 b m) = barBytes b ++ (mode m ∷ [])
 -- "06 EAN-13, 07 EAN-8, 08 UPC-A, 10 UPC-E: rotation, narrow, height, line, data"
 fieldBytes (Bars b) = barBytes b
--- "09 2 of 5, 0a Code 39: rotation, narrow, height, line, check flag, ratio f64, data"
-fieldBytes (Ratio b check ratio) = barBytes b ++ (flag check ∷ float ratio)
+-- "09 2 of 5, 0a Code 39: rotation, narrow, height, line, check flag, wide, ratio f64, data"
+fieldBytes (Ratio b check wide ratio) = barBytes b ++ (flag check ∷ number wide ++ float ratio)
 -- "0b PDF417: rotation, row height, security, columns, rows, truncate flag, module width, data"
 fieldBytes (Pdf417 b) = rotation (b .orientation) ∷ rowBytes b ++ (flag (b .truncate) ∷ number (b .«module_width»))
 -- "0c Aztec: magnification, size, data; 0d Data Matrix: module, columns, rows, data"
@@ -150,11 +155,3 @@ countFrame n = 0 ∷ be32 n
 -- "A refusal prints only ff, its number (1 byte), its place"
 abbrev pub refusalFrame : ℕ → ℕ → List ℕ
 refusalFrame number place = 255 ∷ number ∷ be32 place
-
-abbrev pub lens : List DataSpan → ℕ
-lens [] = 0
-lens (d ∷ ds) = d .len + lens ds
-
--- how many bytes of the input are an element's data, before decoding
-abbrev pub dataLen : LabelElement → ℕ
-dataLen e = lens (spans e)

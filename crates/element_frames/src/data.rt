@@ -76,7 +76,7 @@ fn with_payload(fixed: usize, input: &[u8], d: DataSpan) -> usize
 
 // The length of a frame of data and fixed bytes more, 4294967295 at most.
 pub fn with_data(fixed: usize, input: &[u8], d: Data) -> usize
-    requires { ⌜ fixed ≤ 31 ⌝ }
+    requires { ⌜ fixed ≤ 39 ⌝ }
     ensures { λ r. ⌜ r ≡ min 4294967295 (fixed + length (dataBytes (now (input .entry)) d)) ⌝ }
 {
     match d {

@@ -31,7 +31,8 @@ bars o narrow height line = record { orientation = o; narrow = narrow; height = 
 
 -- the kinds of 01's frames; boxes and diagonals have no data, and that of a graphic is not decoded
 abbrev pub plainOf : LabelElement → Plain
-plainOf (Text e) = plain 0x01 (e .position) (Decoded (e .text)) (fields.Text (e .«reverse_print») (e .font))
+plainOf (Text e) =
+    plain 0x01 (e .position) (Decoded (e .text)) (fields.Text (e .«reverse_print») (e .scale) (e .font))
 plainOf (GraphicBox e) =
     plain 0x02 (e .position) NoData
     (fields.Box (extent (e .width) (e .height) (e .«border_thickness»)) (e .«line_color»))
@@ -53,10 +54,12 @@ plainOf (BarcodeUca e) = let b = e .barcode in
     (fields.Bars (bars (b .orientation) (e .width) (b .height) (b .line)))
 plainOf (Barcode2of5 e) = let b = e .barcode in
     plain 0x09 (e .position) (Decoded (e .«data»))
-    (fields.Ratio (bars (b .orientation) (e .width) (b .height) (b .line)) (b .«check_digit») (e .«width_ratio»))
+    (fields.Ratio (bars (b .orientation) (e .width) (b .height) (b .line)) (b .«check_digit») (e .wide)
+    (e .«width_ratio»))
 plainOf (Barcode39 e) = let b = e .barcode in
     plain 0x0a (e .position) (Decoded (e .«data»))
-    (fields.Ratio (bars (b .orientation) (e .width) (b .height) (b .line)) (b .«check_digit») (e .«width_ratio»))
+    (fields.Ratio (bars (b .orientation) (e .width) (b .height) (b .line)) (b .«check_digit») (e .wide)
+    (e .«width_ratio»))
 plainOf (BarcodePdf417 e) = plain 0x0b (e .position) (Decoded (e .«data»)) (fields.Pdf417 (e .barcode))
 plainOf (BarcodeAztec e) = plain 0x0c (e .position) (Decoded (e .«data»)) (fields.Aztec (e .barcode))
 plainOf (BarcodeDatamatrix e) = plain 0x0d (e .position) (Decoded (e .«data»)) (fields.Datamatrix (e .barcode))

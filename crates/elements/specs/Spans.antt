@@ -19,7 +19,14 @@ later n d = record { start = n + d .start; len = d .len }
 -- the element with its data changed so; boxes and diagonals have none
 abbrev pub onSpan : (DataSpan → DataSpan) → LabelElement → LabelElement
 onSpan f (Text e) =
-    Text (record { position = e .position; «reverse_print» = e .«reverse_print»; font = e .font; text = f (e .text) })
+    Text
+    (record {
+      position = e .position;
+      «reverse_print» = e .«reverse_print»;
+      scale = e .scale;
+      font = e .font;
+      text = f (e .text);
+    })
 onSpan f (GraphicBox e) = GraphicBox e
 onSpan f (DiagonalLine e) = DiagonalLine e
 onSpan f (GraphicField e) =
@@ -37,6 +44,7 @@ onSpan f (Barcode2of5 e) =
     (record {
       barcode = e .barcode;
       width = e .width;
+      wide = e .wide;
       «width_ratio» = e .«width_ratio»;
       position = e .position;
       «data» = f (e .«data»);
@@ -46,6 +54,7 @@ onSpan f (Barcode39 e) =
     (record {
       barcode = e .barcode;
       width = e .width;
+      wide = e .wide;
       «width_ratio» = e .«width_ratio»;
       position = e .position;
       «data» = f (e .«data»);

@@ -35,6 +35,13 @@ pub enum LineColor {
     Xor,
 }
 
+// A font's number and the two multipliers, as read: after defaults and least values. Any number is kept.
+pub struct FontScale {
+    pub font: i32,
+    pub horizontal: i32,
+    pub vertical: i32,
+}
+
 // The size of a text, as two floats, and its rotation.
 pub struct FontInfo {
     pub height: f64,
@@ -42,10 +49,11 @@ pub struct FontInfo {
     pub rotation: FieldOrientation,
 }
 
-// A text (frame 01).
+// A text (frame 01). Its height and width are those that scale gives.
 pub struct TextField {
     pub position: LabelPosition,
     pub reverse_print: bool,
+    pub scale: FontScale,
     pub font: FontInfo,
     pub text: DataSpan,
 }
@@ -138,7 +146,7 @@ pub struct BarcodeUcaWithData {
     pub data: DataSpan,
 }
 
-// 2 of 5 (frame 09). width_ratio is wide to narrow, at least 2.0.
+// 2 of 5 (frame 09). wide is the wide bar as read, 0 and below too; width_ratio is wide to narrow, at least 2.0.
 pub struct Barcode2of5 {
     pub orientation: FieldOrientation,
     pub height: i32,
@@ -149,12 +157,13 @@ pub struct Barcode2of5 {
 pub struct Barcode2of5WithData {
     pub barcode: Barcode2of5,
     pub width: i32,
+    pub wide: i32,
     pub width_ratio: f64,
     pub position: LabelPosition,
     pub data: DataSpan,
 }
 
-// Code 39 (frame 0a). width_ratio is wide to narrow, at least 2.0.
+// Code 39 (frame 0a), with wide and width_ratio as 2 of 5 has them.
 pub struct Barcode39 {
     pub orientation: FieldOrientation,
     pub height: i32,
@@ -165,6 +174,7 @@ pub struct Barcode39 {
 pub struct Barcode39WithData {
     pub barcode: Barcode39,
     pub width: i32,
+    pub wide: i32,
     pub width_ratio: f64,
     pub position: LabelPosition,
     pub data: DataSpan,

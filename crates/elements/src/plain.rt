@@ -10,6 +10,7 @@ use crate::BarcodeQr;
 use crate::DataSpan;
 use crate::FieldOrientation;
 use crate::FontInfo;
+use crate::FontScale;
 use crate::LabelElement;
 use crate::LabelPosition;
 use crate::LineColor;
@@ -33,8 +34,8 @@ pub struct Bars {
 
 // What a frame has between the position and the data, a case for each form in which 01 lists it.
 pub enum Fields {
-    // The reverse flag, and the font.
-    Text(bool, FontInfo),
+    // The reverse flag, the font's number and multipliers, and the font.
+    Text(bool, FontScale, FontInfo),
     Box(Extent, LineColor),
     // With the direction flag.
     Diagonal(Extent, bool),
@@ -42,8 +43,8 @@ pub enum Fields {
     Graphic(i32),
     Code128(Bars, BarcodeMode),
     Bars(Bars),
-    // With the check flag and the ratio.
-    Ratio(Bars, bool, f64),
+    // With the check flag, the wide bar and the ratio.
+    Ratio(Bars, bool, i32, f64),
     Pdf417(BarcodePdf417),
     Aztec(BarcodeAztec),
     Datamatrix(BarcodeDatamatrix),
@@ -97,9 +98,15 @@ pub fn plain_of(e: LabelElement) -> Plain
     match e {
         LabelElement::Text(f) => {
             let position = f.position;
+            let scale = f.scale;
             let font = f.font;
             let span = f.text;
-            decoded(0x01, position, span, Fields::Text(f.reverse_print, font))
+            decoded(
+                0x01,
+                position,
+                span,
+                Fields::Text(f.reverse_print, scale, font),
+            )
         }
         LabelElement::GraphicBox(f) => {
             let position = f.position;
@@ -198,7 +205,7 @@ pub fn plain_of(e: LabelElement) -> Plain
                 0x09,
                 position,
                 span,
-                Fields::Ratio(bars, b.check_digit, f.width_ratio),
+                Fields::Ratio(bars, b.check_digit, f.wide, f.width_ratio),
             )
         }
         LabelElement::Barcode39(f) => {
@@ -216,7 +223,7 @@ pub fn plain_of(e: LabelElement) -> Plain
                 0x0a,
                 position,
                 span,
-                Fields::Ratio(bars, b.check_digit, f.width_ratio),
+                Fields::Ratio(bars, b.check_digit, f.wide, f.width_ratio),
             )
         }
         LabelElement::BarcodePdf417(f) => {

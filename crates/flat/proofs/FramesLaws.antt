@@ -5,7 +5,7 @@ use mathlib.Core.List.{List}
 use Prim.Native.Nat.{ℕ}
 use Rattle.elements.specs.declared.LabelElement.{LabelElement}
 use Rattle.elements.specs.declared.LabelElement.the-variants as kind
-use Rattle.element_frames.specs.Frame.{be32, head, extentBytes, barBytes, rowBytes, fieldBytes, frameOf}
+use Rattle.element_frames.specs.Frame.{be32, head, extentBytes, barBytes, rowBytes, scaleBytes, fieldBytes, frameOf}
 use Rattle.elements.specs.declared.LabelPosition.{LabelPosition}
 use Rattle.whole.specs.Step.{State, Answer, element, cleared, printed, ended, refused}
 use Rattle.walk.specs.Steps.{stateOf}
@@ -14,7 +14,7 @@ use Rattle.flat.specs.Frames.{frameFlat, answerFrame, stateIn}
 
 frame-flat : (s : List ℕ) (e : LabelElement) (st : State LabelPosition)
     → frameFlat s (flatOf (element e st)) ≡ frameOf s e
-unfolding be32 head extentBytes barBytes rowBytes fieldBytes frameOf
+unfolding be32 head extentBytes barBytes rowBytes scaleBytes fieldBytes frameOf
 frame-flat s (kind.Text e) st = refl
 frame-flat s (kind.GraphicBox e) st = refl
 frame-flat s (kind.DiagonalLine e) st = refl

@@ -29,6 +29,10 @@ pub data Field : Type 0 where
   magnification : Field
   size : Field
   mode : Field
+  font : Field
+  horizontal : Field
+  vertical : Field
+  wide : Field
   text-height : Field
   text-width : Field
   ratio : Field
@@ -53,9 +57,13 @@ which rows = 14
 which magnification = 15
 which size = 16
 which mode = 17
-which text-height = 18
-which text-width = 19
-which ratio = 20
+which font = 18
+which horizontal = 19
+which vertical = 20
+which wide = 21
+which text-height = 22
+which text-width = 23
+which ratio = 24
 
 -- what a kind says of a field, or zero
 abbrev pub said : {A : Type 0} → A → List (Field × A) → Field → A
@@ -86,6 +94,10 @@ saying kind p d flags numbers sizes = record {
   magnification = said (pos 0) numbers magnification;
   size = said (pos 0) numbers size;
   mode = said (pos 0) numbers mode;
+  font = said (pos 0) numbers font;
+  horizontal = said (pos 0) numbers horizontal;
+  vertical = said (pos 0) numbers vertical;
+  wide = said (pos 0) numbers wide;
   «text_height» = said (ofBits binary64 0) sizes text-height;
   «text_width» = said (ofBits binary64 0) sizes text-width;
   ratio = said (ofBits binary64 0) sizes ratio;

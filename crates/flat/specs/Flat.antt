@@ -17,7 +17,7 @@ use Rattle.flat.specs.declared.answer.Element.{Element}
 use Rattle.flat.specs.Fields.{Field, saying}
 use Rattle.flat.specs.Fields.{rotation, reverse, colour, direction, line, check, truncate, level}
 use Rattle.flat.specs.Fields.{width, height, thickness, row-bytes, security, columns, rows}
-use Rattle.flat.specs.Fields.{magnification, size, mode}
+use Rattle.flat.specs.Fields.{magnification, size, mode, font, horizontal, vertical, wide}
 use Rattle.flat.specs.Fields.{text-height, text-width, ratio}
 
 -- ---- elements
@@ -41,11 +41,11 @@ bars kind p d o narrow h l flags numbers sizes =
 
 -- the kinds are those of 01's frames, 01 to 10 hexadecimal
 abbrev pub flatElement : LabelElement → Element
--- "01 text: rotation flag (0 to 3), reverse flag, height and width f64, data"
+-- "01 text: rotation flag (0 to 3), reverse flag, font, horizontal and vertical multiplier, height and width f64, data"
 flatElement (element.Text e) =
     saying 1 (e .position) (e .text)
     ((rotation, frame.rotation (e .font .rotation)) ∷ (reverse, frame.flag (e .«reverse_print»)) ∷ [])
-    []
+    ((font, e .scale .font) ∷ (horizontal, e .scale .horizontal) ∷ (vertical, e .scale .vertical) ∷ [])
     ((text-height, e .font .height) ∷ (text-width, e .font .width) ∷ [])
 flatElement (element.GraphicBox e) =
     drawn 2 (e .position) (e .width) (e .height) (e .«border_thickness») colour (frame.colour (e .«line_color»))
@@ -71,13 +71,13 @@ flatElement (element.BarcodeUca e) =
 flatElement (element.BarcodeUcpe e) =
     bars 0x10 (e .position) (e .«data») (e .barcode .orientation) (e .width) (e .barcode .height) (e .barcode .line)
     [] [] []
--- "09 2 of 5, 0a Code 39: rotation, narrow, height, line, check flag, ratio f64, data"
+-- "09 2 of 5, 0a Code 39: rotation, narrow, height, line, check flag, wide, ratio f64, data"
 flatElement (element.Barcode2of5 e) =
     bars 9 (e .position) (e .«data») (e .barcode .orientation) (e .width) (e .barcode .height) (e .barcode .line)
-    ((check, frame.flag (e .barcode .«check_digit»)) ∷ []) [] ((ratio, e .«width_ratio») ∷ [])
+    ((check, frame.flag (e .barcode .«check_digit»)) ∷ []) ((wide, e .wide) ∷ []) ((ratio, e .«width_ratio») ∷ [])
 flatElement (element.Barcode39 e) =
     bars 0x0a (e .position) (e .«data») (e .barcode .orientation) (e .width) (e .barcode .height) (e .barcode .line)
-    ((check, frame.flag (e .barcode .«check_digit»)) ∷ []) [] ((ratio, e .«width_ratio») ∷ [])
+    ((check, frame.flag (e .barcode .«check_digit»)) ∷ []) ((wide, e .wide) ∷ []) ((ratio, e .«width_ratio») ∷ [])
 -- "0b PDF417: rotation, row height, security, columns, rows, truncate flag, module width, data"
 flatElement (element.BarcodePdf417 e) =
     saying 0x0b (e .position) (e .«data»)

@@ -31,10 +31,12 @@ barsFlat e = e .rotation ∷ number (e .width) ++ number (e .height) ++ (e .line
 -- what follows, by the kind k
 abbrev pub restFlat : ℕ → List ℕ → Element → List ℕ
 restFlat k s e =
-    -- "01 text: rotation flag (0 to 3), reverse flag, height and width f64, data"
+    -- "01 text: rotation flag (0 to 3), reverse flag, font, horizontal and vertical multiplier, height and width f64,
+    -- data"
     cond (eqb k 1)
-    ((e .rotation ∷ []) ++ (e .reverse ∷ []) ++ float (e .«text_height») ++ float (e .«text_width»)
-    ++ decoded s (spanFlat e))
+    ((e .rotation ∷ []) ++ (e .reverse ∷ [])
+    ++ (number (e .font) ++ number (e .horizontal) ++ number (e .vertical))
+    ++ float (e .«text_height») ++ float (e .«text_width») ++ decoded s (spanFlat e))
     -- "02 box: width, height, thickness, colour flag"; "03 diagonal: width, height, thickness, direction flag"
     (cond (eqb k 2) (number (e .width) ++ number (e .height) ++ number (e .thickness) ++ (e .colour ∷ []))
     (cond (eqb k 3) (number (e .width) ++ number (e .height) ++ number (e .thickness) ++ (e .direction ∷ []))
@@ -44,8 +46,9 @@ restFlat k s e =
     (cond (eqb k 5) (barsFlat e ++ (natAbs (e .mode) ∷ []) ++ decoded s (spanFlat e))
     -- "06 EAN-13, 07 EAN-8, 08 UPC-A, 10 UPC-E: rotation, narrow, height, line, data"
     (cond (eqb k 6 || eqb k 7 || eqb k 8 || eqb k 0x10) (barsFlat e ++ decoded s (spanFlat e))
-    -- "09 2 of 5, 0a Code 39: rotation, narrow, height, line, check flag, ratio f64, data"
-    (cond (eqb k 9 || eqb k 0x0a) (barsFlat e ++ (e .check ∷ []) ++ float (e .ratio) ++ decoded s (spanFlat e))
+    -- "09 2 of 5, 0a Code 39: rotation, narrow, height, line, check flag, wide, ratio f64, data"
+    (cond (eqb k 9 || eqb k 0x0a)
+    (barsFlat e ++ (e .check ∷ []) ++ number (e .wide) ++ float (e .ratio) ++ decoded s (spanFlat e))
     -- "0b PDF417: rotation, row height, security, columns, rows, truncate flag, module width, data"
     (cond (eqb k 0x0b)
     ((e .rotation ∷ []) ++ (number (e .height) ++ number (e .security) ++ number (e .columns) ++ number (e .rows))

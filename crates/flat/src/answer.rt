@@ -44,6 +44,12 @@ pub struct Element {
     pub size: i32,
     // Of Code 128 its mode flag, of MaxiCode its mode.
     pub mode: i32,
+    // Of a text: the font's number and the multipliers.
+    pub font: i32,
+    pub horizontal: i32,
+    pub vertical: i32,
+    // Of 2 of 5 and Code 39: the wide bar.
+    pub wide: i32,
     pub text_height: f64,
     pub text_width: f64,
     // Wide to narrow.
@@ -96,6 +102,10 @@ pub(crate) fn placed(kind: u8, p: LabelPosition, d: DataSpan) -> Element
         magnification: 0,
         size: 0,
         mode: 0,
+        font: 0,
+        horizontal: 0,
+        vertical: 0,
+        wide: 0,
         text_height: 0.0,
         text_width: 0.0,
         ratio: 0.0,

@@ -34,12 +34,16 @@ fn text_field(e: TextField) -> Element
     ensures { λ r. ⌜ r ≡ flatElement (element.Text e) ⌝ }
 {
     let position = e.position;
+    let scale = e.scale;
     let font = e.font;
     let turned = font.rotation;
     let data = e.text;
     let mut a = placed(1, position, data);
     a.rotation = rotation(turned);
     a.reverse = flag(e.reverse_print);
+    a.font = scale.font;
+    a.horizontal = scale.horizontal;
+    a.vertical = scale.vertical;
     a.text_height = font.height;
     a.text_width = font.width;
     a
@@ -155,6 +159,7 @@ fn interleaved(e: Barcode2of5WithData) -> Element
     a.check = flag(b.check_digit);
     a.width = e.width;
     a.height = b.height;
+    a.wide = e.wide;
     a.ratio = e.width_ratio;
     a
 }
@@ -171,6 +176,7 @@ fn code_39(e: Barcode39WithData) -> Element
     a.check = flag(b.check_digit);
     a.width = e.width;
     a.height = b.height;
+    a.wide = e.wide;
     a.ratio = e.width_ratio;
     a
 }

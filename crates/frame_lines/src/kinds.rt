@@ -4,7 +4,7 @@ ghost use mathlib.Core.Path.{_≡_};
 ghost use Prim.Native.Nat.{_+_, _*_, _≤_};
 ghost use lib.ListN.{length};
 ghost use Rattle.elements.specs.declared.plain.Fields.the-variants as fields;
-ghost use Rattle.element_frames.specs.Frame.{extentBytes, rowBytes, fieldBytes};
+ghost use Rattle.element_frames.specs.Frame.{extentBytes, rowBytes, scaleBytes, fieldBytes};
 ghost use Rattle.element_frames.specs.Put.{PutHex};
 use element_frames::fields::colour;
 use element_frames::fields::flag;
@@ -22,20 +22,32 @@ use elements::BarcodeMode;
 use elements::BarcodePdf417;
 use elements::BarcodeQr;
 use elements::FontInfo;
+use elements::FontScale;
 use elements::QrErrorCorrectionLevel;
 use elements::plain::Bars;
 use elements::plain::Extent;
 use elements::plain::Fields;
 
-fn put_text(out: &mut [u8], at: usize, f: FontInfo, reverse: bool) -> usize
-    requires { ⌜ at + 36 ≤ length (now out) ⌝ }
-    ensures { λ r. ⌜ PutHex (now (out .exit)) (now (out .entry)) at (fieldBytes (fields.Text reverse f)) 18 r ⌝ }
+// The font's number and the multipliers.
+fn put_scale(out: &mut [u8], at: usize, s: FontScale) -> usize
+    requires { ⌜ at + 24 ≤ length (now out) ⌝ }
+    ensures { λ r. ⌜ PutHex (now (out .exit)) (now (out .entry)) at (scaleBytes s) 12 r ⌝ }
+{
+    let a = put_i32(out, at, s.font);
+    let b = put_i32(out, a, s.horizontal);
+    put_i32(out, b, s.vertical)
+}
+
+fn put_text(out: &mut [u8], at: usize, s: FontScale, f: FontInfo, reverse: bool) -> usize
+    requires { ⌜ at + 60 ≤ length (now out) ⌝ }
+    ensures { λ r. ⌜ PutHex (now (out .exit)) (now (out .entry)) at (fieldBytes (fields.Text reverse s f)) 30 r ⌝ }
 {
     let turned = f.rotation;
     let a = put_rotation(out, at, turned);
     let b = put_flag(out, a, reverse);
-    let c = put_f64(out, b, f.height);
-    put_f64(out, c, f.width)
+    let c = put_scale(out, b, s);
+    let d = put_f64(out, c, f.height);
+    put_f64(out, d, f.width)
 }
 
 // With the colour flag or the direction flag.
@@ -57,13 +69,14 @@ fn put_128(out: &mut [u8], at: usize, b: Bars, m: BarcodeMode) -> usize
     put_byte(out, a, mode(m))
 }
 
-fn put_ratio(out: &mut [u8], at: usize, b: Bars, check: bool, ratio: f64) -> usize
-    requires { ⌜ at + 38 ≤ length (now out) ⌝ }
-    ensures { λ r. ⌜ PutHex (now (out .exit)) (now (out .entry)) at (fieldBytes (fields.Ratio b check ratio)) 19 r ⌝ }
+fn put_ratio(out: &mut [u8], at: usize, b: Bars, check: bool, wide: i32, ratio: f64) -> usize
+    requires { ⌜ at + 46 ≤ length (now out) ⌝ }
+    ensures { λ r. ⌜ PutHex (now (out .exit)) (now (out .entry)) at (fieldBytes (fields.Ratio b check wide ratio)) 23 r ⌝ }
 {
     let a = put_bars(out, at, b);
     let c = put_flag(out, a, check);
-    put_f64(out, c, ratio)
+    let d = put_i32(out, c, wide);
+    put_f64(out, d, ratio)
 }
 
 // Row height, security, columns and rows.
@@ -119,13 +132,13 @@ pub(crate) fn put_fields(out: &mut [u8], at: usize, f: Fields) -> usize
     ensures { λ r. ⌜ PutHex (now (out .exit)) (now (out .entry)) at (fieldBytes f) (length (fieldBytes f)) r ⌝ }
 {
     match f {
-        Fields::Text(reverse, font) => put_text(out, at, font, reverse),
+        Fields::Text(reverse, scale, font) => put_text(out, at, scale, font, reverse),
         Fields::Box(x, c) => put_drawn(out, at, x, colour(c)),
         Fields::Diagonal(x, d) => put_drawn(out, at, x, flag(d)),
         Fields::Graphic(n) => put_i32(out, at, n),
         Fields::Code128(b, m) => put_128(out, at, b, m),
         Fields::Bars(b) => put_bars(out, at, b),
-        Fields::Ratio(b, check, ratio) => put_ratio(out, at, b, check, ratio),
+        Fields::Ratio(b, check, wide, ratio) => put_ratio(out, at, b, check, wide, ratio),
         Fields::Pdf417(b) => put_pdf417(out, at, b),
         Fields::Aztec(b) => put_aztec(out, at, b),
         Fields::Datamatrix(b) => put_datamatrix(out, at, b),
@@ -136,16 +149,16 @@ pub(crate) fn put_fields(out: &mut [u8], at: usize, f: Fields) -> usize
 
 // How many bytes they are.
 pub(crate) fn fields_len(f: Fields) -> usize
-    ensures { λ r. ⌜ (r ≡ length (fieldBytes f)) × (r ≤ 22) ⌝ }
+    ensures { λ r. ⌜ (r ≡ length (fieldBytes f)) × (r ≤ 30) ⌝ }
 {
     match f {
-        Fields::Text(_, _) => 18,
+        Fields::Text(_, _, _) => 30,
         Fields::Box(_, _) => 13,
         Fields::Diagonal(_, _) => 13,
         Fields::Graphic(_) => 4,
         Fields::Code128(_, _) => 11,
         Fields::Bars(_) => 10,
-        Fields::Ratio(_, _, _) => 19,
+        Fields::Ratio(_, _, _, _) => 23,
         Fields::Pdf417(_) => 22,
         Fields::Aztec(_) => 8,
         Fields::Datamatrix(_) => 12,

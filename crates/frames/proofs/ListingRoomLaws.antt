@@ -1,24 +1,21 @@
 -- A listing has at most 16 bytes for each byte of its input (`length-listing-le`, `never-short`): an element's line,
 -- with that of the label that it may make alone, is paid by its unit. Other laws of listings are in ListingLaws.
 -- Assumes nothing.
-use mathlib.Core.Path.{_≡_, refl, sym, ap, subst, _∙_}
-use mathlib.Core.List.{List, [], _∷_, _++_, map}
-use mathlib.Core.Logic.{_⊎_, inl, inr}
+use mathlib.Core.Path.{_≡_, refl, sym, subst}
+use mathlib.Core.List.{List, [], _∷_, _++_}
 use Prim.Native.Nat.{ℕ, zero, suc, _+_, _-_, _*_, _<_, _≤_}
 use native.Mathlib.Omega.{arith}
 use lib.ListN.{length, length-append}
 use borrow.Author.Tests.{le-ltb}
-use Rattle.elements.specs.declared.DataSpan.{DataSpan}
 use Rattle.elements.specs.declared.LabelElement.{LabelElement}
 use Rattle.elements.specs.declared.LabelElement.the-variants.{GraphicField}
 use Rattle.elements.specs.declared.LabelPosition.{LabelPosition}
 use Rattle.elements.specs.declared.plain.Data.{Data}
 use Rattle.elements.specs.declared.plain.Data.the-variants.{NoData, Payload, Decoded}
 use Rattle.elements.specs.Plain.{plainOf}
-use Rattle.elements.specs.Spans.{spansIn, spans, later, shifted}
-use Rattle.elements.proofs.PlainLaws.{spans-shifted}
-use Rattle.element_frames.specs.Frame.{frameOf, lens}
-use Rattle.element_frames.proofs.FrameLaws.{frame-le, frame-plain}
+use Rattle.elements.specs.Spans.{spansIn, shifted}
+use Rattle.element_frames.specs.Frame.{frameOf}
+use Rattle.element_frames.proofs.FrameLaws.{frameMost, frame-le, most-shifted}
 use Rattle.parameters.specs.declared.position.Placed.{Placed}
 use Rattle.parameters.specs.declared.position.Placed.the-variants as placing
 use Rattle.parameters.specs.declared.reading.LineReading.the-variants as reading
@@ -42,32 +39,21 @@ use Rattle.frames.specs.Listing.{FramedLabel, linesOf, labelLines, listi
 use Rattle.frames.specs.Printing.{shownOf, refusalBy, shownBy, printedOf}
 use Rattle.frames.proofs.ListingLaws.{length-lines, length-label}
 
--- an element has one span of data or none
-one-span : (d : Data) → (spansIn d ≡ []) ⊎ ((x : DataSpan) × (spansIn d ≡ x ∷ []))
-one-span NoData = inl refl
-one-span (Payload d) = inr (d, refl)
-one-span (Decoded d) = inr (d, refl)
-
 -- a line of 2 digits a byte and an LF, and the 11 bytes of frame 00's line
 abbrev Pays : ℕ → LabelElement → Type 0
 Pays k e = (s : List ℕ) → 2 * length (frameOf s e) + 12 ≤ 16 * k
 
--- a unit of n bytes whose element has the data ds: enough for its frame, or with a header of six bytes
-abbrev Enough : ℕ → List DataSpan → Type 0
-Enough n ds = (ds ≡ [] → 5 ≤ n) × ((d : DataSpan) → ds ≡ d ∷ [] → 90 + 6 * d .len ≤ 16 * n)
+-- so much for any frame with the data d
+abbrev Enough : ℕ → Data → Type 0
+Enough n d = 2 * frameMost d + 12 ≤ 16 * n
 
-enough-pays : (n at : ℕ) (e : LabelElement) → Enough n (spans e) → Pays n (shifted at e)
-enough-pays n at e h s = by (one-span (plainOf e .«data»))
-  where
-    by : (spans e ≡ []) ⊎ ((d : DataSpan) × (spans e ≡ d ∷ [])) → 2 * length (frameOf s (shifted at e)) + 12 ≤ 16 * n
-    by (inl q) = omega (arith, h .0 q, frame-plain s (shifted at e) (spans-shifted at e ∙ ap (map (later at)) q))
-    by (inr w) = omega (arith, h .1 (w .0) (w .1), frame-le s (shifted at e), ap lens (spans-shifted at e ∙ ap (map (later at)) (w .1)))
+enough-pays : (n at : ℕ) (e : LabelElement) → Enough n (plainOf e .«data») → Pays n (shifted at e)
+enough-pays n at e h s = omega (arith, h, frame-le s (shifted at e), most-shifted at e)
 
-line-enough : (n : ℕ) (ds : List DataSpan) → Long n ds → Enough n ds
-line-enough n ds l = (l .0, λ d q. omega (arith, l .1 d q))
-
-more-enough : (n m : ℕ) (ds : List DataSpan) → n ≤ m → Enough n ds → Enough m ds
-more-enough n m ds h e = (λ q. omega (arith, e .0 q), λ d q. omega (arith, e .1 d q))
+line-enough : (n : ℕ) (d : Data) → Long n (spansIn d) → Enough n d
+line-enough n NoData l = omega (arith, l .0 refl)
+line-enough n (Payload d) l = omega (arith, l .1 d refl)
+line-enough n (Decoded d) l = omega (arith, l .1 d refl)
 
 -- `GW` and four commas
 header-long : (bs : List ℕ) (h : Header) → 6 ≤ length (bs ++ gw h [])
@@ -75,24 +61,17 @@ header-long bs h =
     let l = h .lines ++ 44 ∷ [] in let w = h .width ++ 44 ∷ l in let y = h .y ++ 44 ∷ w in let x = h .x ++ 44 ∷ y in
     omega (arith, length-append bs (71 ∷ 87 ∷ x), length-append (h .x) (44 ∷ y), length-append (h .y) (44 ∷ w), length-append (h .width) (44 ∷ l), length-append (h .lines) (44 ∷ []))
 
-block-enough : (n : ℕ) (e : LabelElement) (d : DataSpan) → spans e ≡ d ∷ [] → 6 + d .len ≤ n → Enough n (spans e)
-block-enough n e d q h =
-    (λ z. absurd (let k = ap length (sym z ∙ q) in omega arith), λ x z. let k : x ≡ d = head-is x d (sym z ∙ q) in omega (arith, ap (λ (y : DataSpan). y .len) k))
-  where
-    head-is : (x y : DataSpan) → _≡_ {A = List DataSpan} (x ∷ []) (y ∷ []) → x ≡ y
-    head-is x y e = cc
-
 unit-pays : (r : LabelPosition) (u : EplUnit) (e : LabelElement) (at : ℕ) → acts r u ≡ yield e → Pays (length (bytes u)) (shifted at e)
 unit-pays r (block bs h p) e at q = by (placed (number (h .x)) (number (h .y)) r) (act-yields r (blockSays bs h p r) e q)
   where
     by : (o : Placed) → yields o (λ x. GraphicField (record { position = x; «row_bytes» = number (h .width); «data» = record { start = length (bs ++ gw h []); len = length p } })) ≡ reading.Element e → Pays (length (bytes (block bs h p))) (shifted at e)
     by (placing.At x) z =
         let k : GraphicField (record { position = x; «row_bytes» = number (h .width); «data» = record { start = length (bs ++ gw h []); len = length p } }) ≡ e = cc in
-        enough-pays (length (bytes (block bs h p))) at e (block-enough (length (bytes (block bs h p))) e _ (ap spans (sym k)) (omega (arith, block-length bs h p, header-long bs h)))
+        enough-pays (length (bytes (block bs h p))) at e (subst (λ (x : LabelElement). Enough (length (bytes (block bs h p))) (plainOf x .«data»)) k (omega (arith, block-length bs h p, header-long bs h)))
     by placing.Outside z = absurd (let k : _≡_ {A = ℕ} 0 1 = cc in omega arith)
 unit-pays r (line t) e at q =
-    enough-pays (length (t ++ 10 ∷ [])) at e (more-enough (length t) (length (t ++ 10 ∷ [])) (spans e) (omega (arith, length-append t (10 ∷ []))) (line-enough (length t) (spans e) (line-long t r e (act-yields r (readLine t r) e q))))
-unit-pays r (last t) e at q = enough-pays (length t) at e (line-enough (length t) (spans e) (line-long t r e (act-yields r (readLine t r) e q)))
+    enough-pays (length (t ++ 10 ∷ [])) at e (omega (arith, length-append t (10 ∷ []), line-enough (length t) (plainOf e .«data») (line-long t r e (act-yields r (readLine t r) e q))))
+unit-pays r (last t) e at q = enough-pays (length t) at e (line-enough (length t) (plainOf e .«data») (line-long t r e (act-yields r (readLine t r) e q)))
 
 -- ---- along the walk
 -- at most so many bytes from a state, p being pending

@@ -238,10 +238,10 @@ ranged-a : (s : List ℕ) (d : DataSpan) (r : LabelPosition) → atLeast 7 s ≡
 unfolding textReading textElement textFields pointOf
 ranged-a s d r e =
     let f = textFields s in
-    let q = products (f .font) (f .scale .«h_mult») (f .scale .«v_mult») in
+    let q = products (f .scale .font) (f .scale .horizontal) (f .scale .vertical) in
     enough (length (fields s)) 7 refusal.TextFields _ (dataSums s r) q e
-    (ranged-text (dataSums s r) q f d (placed (f .at .x) (f .at .y) r) (fontOf (f .font) (f .scale .«h_mult») (f .scale .«v_mult») (f .rotation))
-    (place (f .at .x) (f .at .y) r) (scale (f .font) (f .scale .«h_mult») (f .scale .«v_mult») (f .rotation)))
+    (ranged-text (dataSums s r) q f d (placed (f .at .x) (f .at .y) r) (fontOf (f .scale .font) (f .scale .horizontal) (f .scale .vertical) (f .rotation))
+    (place (f .at .x) (f .at .y) r) (scale (f .scale .font) (f .scale .horizontal) (f .scale .vertical) (f .rotation)))
 
 -- `B` and `b`, their types listed
 ranged-barcode : (zs : List ℤ) (y : Symbology) (b : Barcode) → isListed y ≡ true → AllFit zs → Ranged zs [] (barcodeElement y b)

@@ -147,7 +147,7 @@ text-none : (zs : List ℤ) (f : TextFields) (d : DataSpan) (p : Placed) → Sha
 text-none zs f d (placing.At at) = tt
 text-none zs f d placing.Outside = tt
 
-text-is : (f : TextFields) (d : DataSpan) (i : FontInfo) (p : Placed) → textOf f d p (scaled.Font i) ≡ position.yields p (λ at. element.Text (record { position = at; «reverse_print» = f .scale .reverse; font = i; text = d }))
+text-is : (f : TextFields) (d : DataSpan) (i : FontInfo) (p : Placed) → textOf f d p (scaled.Font i) ≡ position.yields p (λ at. element.Text (record { position = at; «reverse_print» = f .reverse; scale = f .scale; font = i; text = d }))
 text-is f d i (placing.At at) = refl
 text-is f d i placing.Outside = refl
 
@@ -160,7 +160,7 @@ unfolding textReading textElement textFields pointOf
 shaped-a s d r =
     let f = textFields s in
     shaped-cond (ltb (length (fields s)) 7) refusal.TextFields 0x01 (sums (number (field s 0)) (number (field s 1)) r) _
-    (shaped-text (number (field s 0)) (number (field s 1)) r f d (fontOf (f .font) (f .scale .«h_mult») (f .scale .«v_mult») (f .rotation)))
+    (shaped-text (number (field s 0)) (number (field s 1)) r f d (fontOf (f .scale .font) (f .scale .horizontal) (f .scale .vertical) (f .rotation)))
 
 -- ---- kinds by the readers' tables
 abbrev kindsBy : {A : Type 0} → (A → ℕ) → List (Row A) → List (Row ℕ)

@@ -126,7 +126,7 @@ unfolding textReading textElement
 meets-text s t d r =
     let f = textFields s in
     meets-count (length (fields s)) 7 true true 9 refusal.TextFields (d ∷ []) _
-    (passed-text f d (placed (f .at .x) (f .at .y) r) (fontOf (f .font) (f .scale .«h_mult») (f .scale .«v_mult») (f .rotation)))
+    (passed-text f d (placed (f .at .x) (f .at .y) r) (fontOf (f .scale .font) (f .scale .horizontal) (f .scale .vertical) (f .rotation)))
 
 -- `B`
 

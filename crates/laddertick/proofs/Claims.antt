@@ -238,6 +238,7 @@ claims library = record {
     starred = starred;
     distinct = distinct;
   };
+  sized = calls.sized library;
   demand3 = demand-of library;
   block-bytes = block-bytes;
   line-blocks = line-blocks;

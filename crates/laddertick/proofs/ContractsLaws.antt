@@ -1,6 +1,6 @@
 -- Demand 1, of functions that meet the contracts: what a refused call leaves, when it is refused as 14 and as 16, and
--- that the end is answered again (the laws that `demand1` of the claims names); and what a call that fills a buffer
--- gives, by what is due to it (`gives`, `denies`). Assumes nothing.
+-- that the end is answered again (the laws that `demand1` of the claims names); the sizes of what a step answers
+-- (`sized`); and what a call that fills a buffer gives, by what is due to it (`gives`, `denies`). Assumes nothing.
 use mathlib.Core.Path.{_≡_, sym, ap, subst, _∙_}
 use mathlib.Core.Bool.{Bool, true, false, cond, _||_}
 use mathlib.Core.List.{List, []}
@@ -42,6 +42,8 @@ use Rattle.frames.specs.Listing.{outcomeOf, listingDue, dueOf}
 use Rattle.format.specs.Normalise as normal
 use Rattle.laddertick.specs.Contracts.{Filling, Library, Denies, Gives}
 use Rattle.laddertick.specs.Walked.{Outside}
+use Rattle.laddertick.specs.Sized.{Sized}
+use Rattle.laddertick.proofs.SizedLaws as sized-laws
 use Rattle.laddertick.proofs.StepInsideLaws as inside-laws
 
 -- ---- the theory's steps
@@ -153,3 +155,6 @@ module _ (library : Library) where
 
   pub data-inside : (s : List ℕ) (w w′ : WalkState) (e : LabelElement) → library .step s w ≡ Element w′ e → In (length s) e
   data-inside s w w′ e h = inside-laws.data-inside s (stateOf w) (stateOf w′) e (answers-as s w h)
+
+  pub sized : (s : List ℕ) (w w′ : WalkState) (e : LabelElement) → library .step s w ≡ Element w′ e → Sized e
+  sized s w w′ e h = sized-laws.sized s (stateOf w) (stateOf w′) e (answers-as s w h)

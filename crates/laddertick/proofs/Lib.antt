@@ -3,8 +3,9 @@ pub mod Starred
 pub mod Distinct
 -- `LE` beside `LO`
 pub mod ColouredLaws
--- data lies inside
+-- data lies inside; sizes and ratios are those of an element's fields
 pub mod StepInsideLaws
+pub mod SizedLaws
 -- the walk by a function that meets the contract of `step`
 pub mod WalkedLaws
 -- demand 1, and what a call gives by what is due to it

@@ -61,6 +61,7 @@ use Rattle.laddertick.specs.Contracts.{Library, Denies, Gives}
 use Rattle.laddertick.specs.Proved.{Proved}
 use Rattle.laddertick.specs.Walked.{Walked, answered, Outside}
 use Rattle.laddertick.specs.Coloured.{Coloured}
+use Rattle.laddertick.specs.Sized.{Sized}
 use Rattle.laddertick.specs.Table.{Holds}
 use Rattle.laddertick.specs.Starred as starred
 use Rattle.laddertick.specs.Distinct as distinct
@@ -223,6 +224,9 @@ pub record Claims (library : Library) : Type 0 where
   pub start : fresh ≡ record { place = 0; reference = record { x = pos 0; y = pos 0 }; pending = 0 }
   pub demand1 : Demand1 library
   pub demand2 : Demand2
+  -- "The sizes and the ratio are those that these fields give": of every element that a step answers, from any state,
+  -- height and width are those of its font and multipliers, the ratio that of its wide and narrow bar
+  pub sized : (s : List ℕ) (w w′ : WalkState) (e : LabelElement) → library .step s w ≡ Element w′ e → Sized e
   -- demand 3, whole
   pub demand3 : (s : List ℕ) → length s ≤ longest → Demand3 library s
   -- a graphic block is its bytes, blanks, `GW`, four fields and payload; a line has none

@@ -3,8 +3,9 @@ pub mod Claims
 -- what the entry points promise; the walk of a function that meets it
 pub mod Contracts
 pub mod Walked
--- lines that differ in their colour
+-- lines that differ in their colour; sizes and ratios by an element's own fields
 pub mod Coloured
+pub mod Sized
 -- the code, and the contracts that it is proved to meet
 pub mod Proved
 -- tables of computed cases: 01, "Corners", the starred ones; each command and type with distinct fields

@@ -31,13 +31,14 @@ f64 n = ofInt binary64 (pos n)
 abbrev point : ℕ → ℕ → LabelPosition
 point x y = record { x = pos x; y = pos y }
 
--- the text of the `A` lines below, by its height and width
-abbrev text : ℕ → ℕ → LabelElement
-text h w =
+-- the text of the `A` lines below, by its horizontal multiplier, its height and its width
+abbrev text : ℕ → ℕ → ℕ → LabelElement
+text m h w =
     Text
     (record {
       position = point 1 2;
       «reverse_print» = false;
+      scale = record { font = pos 1; horizontal = pos m; vertical = pos 1 };
       font = record { height = f64 h; width = f64 w; rotation = Normal };
       text = record { start = 16; len = 1 };
     })
@@ -81,8 +82,8 @@ table =
     -- "`A1,2,0,1,1,1,,"x"`: refused 1."
     ∷ case "A1,2,0,1,1,1,,\"x\"" (refused 1 0 fresh ∷ [])
     -- "`N` in the seventh field: height 12, width 12. With multipliers 2,1: height 12, width 16."
-    ∷ case "A1,2,0,1,1,1,N,\"x\"" (alone 18 (text 12 12))
-    ∷ case "A1,2,0,1,2,1,N,\"x\"" (alone 18 (text 12 16))
+    ∷ case "A1,2,0,1,1,1,N,\"x\"" (alone 18 (text 1 12 12))
+    ∷ case "A1,2,0,1,2,1,N,\"x\"" (alone 18 (text 2 12 16))
     -- "`LS5,5,1,5,5`: direction 1." "`LS0,0,1,9,0`: direction 0."
     ∷ case "LS5,5,1,5,5" (alone 11 (diagonal (point 5 5) 0 0 true))
     ∷ case "LS0,0,1,9,0" (alone 11 (diagonal origin 9 0 false))

@@ -30,27 +30,29 @@ textFields s =
     record {
       at = pointOf (field s 0) (field s 1);
       rotation = fieldOr (pos 0) (field s 2);
-      font = fieldOr (pos 1) (field s 3);
       scale =
           record {
-            «h_mult» = sizeOr (pos 1) (field s 4);
-            «v_mult» = sizeOr (pos 1) (field s 5);
-            reverse = exactly (letter "R") (field s 6);
+            font = fieldOr (pos 1) (field s 3);
+            horizontal = sizeOr (pos 1) (field s 4);
+            vertical = sizeOr (pos 1) (field s 5);
           };
+      reverse = exactly (letter "R") (field s 6);
     }
 
--- the text at its position in its font; 13 where it has no position, "directly after 13" 19 where it has no font
+-- the text at its position in its font, with "the font number, the horizontal and the vertical multiplier, after
+-- defaults and least values"; 13 where it has no position, "directly after 13" 19 where it has no font
 abbrev pub textOf : TextFields → DataSpan → Placed → Scaled → LineReading
 textOf f d (placing.At at) (scaled.Font i) =
     reading.Element
-    (element.Text (record { position = at; «reverse_print» = f .scale .reverse; font = i; text = d }))
+    (element.Text
+    (record { position = at; «reverse_print» = f .reverse; scale = f .scale; font = i; text = d }))
 textOf f d (placing.At at) scaled.Outside = reading.Refused refusal.SizeOutside
 textOf f d placing.Outside i = reading.Refused refusal.OutOfRange
 
 unfoldable pub textElement : TextFields → DataSpan → LabelPosition → LineReading
 textElement f d r =
     textOf f d (placed (f .at .x) (f .at .y) r)
-    (fontOf (f .font) (f .scale .«h_mult») (f .scale .«v_mult») (f .rotation))
+    (fontOf (f .scale .font) (f .scale .horizontal) (f .scale .vertical) (f .rotation))
 
 -- "number at least 7", or 1
 unfoldable pub textReading : List ℕ → DataSpan → LabelPosition → LineReading

@@ -4,6 +4,7 @@ ghost use Rattle.texts.specs.Text.{textElement, textReading};
 use crate::fonts::Scaled;
 use crate::fonts::font_info;
 use elements::DataSpan;
+use elements::FontScale;
 use elements::LabelElement;
 use elements::LabelPosition;
 use elements::TextField;
@@ -17,17 +18,11 @@ use parameters::position::Placed;
 use parameters::position::place;
 use parameters::reading::LineReading;
 
-pub struct Scale {
-    pub h_mult: i32,
-    pub v_mult: i32,
-    pub reverse: bool,
-}
-
 pub struct TextFields {
     pub at: LabelPosition,
     pub rotation: i32,
-    pub font: i32,
-    pub scale: Scale,
+    pub scale: FontScale,
+    pub reverse: bool,
 }
 
 // The text at a reference: 13, then 19.
@@ -39,12 +34,14 @@ pub(crate) fn text_element(f: TextFields, span: DataSpan, reference: LabelPositi
     let Placed::At(position) = place(at.x, at.y, reference) else {
         return LineReading::Refused(Refusal::OutOfRange);
     };
-    let Scaled::Font(font) = font_info(f.font, scale.h_mult, scale.v_mult, f.rotation) else {
+    let Scaled::Font(font) = font_info(scale.font, scale.horizontal, scale.vertical, f.rotation)
+    else {
         return LineReading::Refused(Refusal::SizeOutside);
     };
     LineReading::Element(LabelElement::Text(TextField {
         position,
-        reverse_print: scale.reverse,
+        reverse_print: f.reverse,
+        scale,
         font,
         text: span,
     }))
@@ -68,16 +65,16 @@ pub fn parse_epl_text(params: &[u8], span: DataSpan, reference: LabelPosition) -
         x: x.value,
         y: y.value,
     };
-    let scale = Scale {
-        h_mult: h_mult.value,
-        v_mult: v_mult.value,
-        reverse,
+    let scale = FontScale {
+        font: font.value,
+        horizontal: h_mult.value,
+        vertical: v_mult.value,
     };
     let fields = TextFields {
         at,
         rotation: rotation.value,
-        font: font.value,
         scale,
+        reverse,
     };
     text_element(fields, span, reference)
 }

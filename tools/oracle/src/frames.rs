@@ -1,4 +1,4 @@
-//! 01's frames: a label is its frame 00 and the frames of its elements; one line a frame, two lowercase hexadecimal digits a byte.
+//! 01's frames, without the fields that the Rust has not (`fields.rs`): a label is its frame 00 and the frames of its elements; one line a frame, two lowercase hexadecimal digits a byte.
 
 use crate::elements::barcode_qr::QrErrorCorrectionLevel;
 use crate::elements::label_element::LabelElement;

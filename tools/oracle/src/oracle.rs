@@ -6,6 +6,7 @@
 
 mod elements;
 mod epl;
+pub mod fields;
 mod frames;
 pub mod masked;
 pub mod panics;
@@ -24,7 +25,7 @@ pub const LIMIT: usize = 16_777_216;
 /// What the Rust makes of an input.
 #[derive(Clone, Debug, PartialEq, Eq)]
 pub enum Answer {
-    /// The frames of all labels: hexadecimal, one a line, each line ended by LF.
+    /// The frames of all labels, without the fields that the Rust has not (`fields`): hexadecimal, one a line, each line ended by LF.
     Labels(String),
     /// 01's number, and the place of the refused unit's first byte, its blanks included.
     Refused(u8, usize),
@@ -101,9 +102,18 @@ fn refused_place(input: &[u8]) -> usize {
 
 /// Where the unit that stands at a place ends: past a block's payload, or past a line's LF. A malformed `GW` line ends as a line.
 fn unit_end(input: &[u8], place: usize) -> usize {
+    block_end(input, place).unwrap_or(input.len().min(line_end(input, place) + 1))
+}
+
+/// Past the payload of the block that stands at a place, where there is a well-formed one.
+fn block_end(input: &[u8], place: usize) -> Option<usize> {
+    epl::block_end(input, place, line_end(input, place))
+}
+
+/// Where the line that a place is on has its LF, or the end of the input.
+fn line_end(input: &[u8], place: usize) -> usize {
     let line = input[place..].iter().position(|&b| b == b'\n');
-    let line_end = line.map_or(input.len(), |n| place + n);
-    epl::block_end(input, place, line_end).unwrap_or(input.len().min(line_end + 1))
+    line.map_or(input.len(), |n| place + n)
 }
 
 thread_local! {

@@ -1,7 +1,8 @@
 //! Writes the cases of crates/replay: a fixed list of inputs, kind by kind, with the oracle's answers.
 //! - stdin: for each case its length, 4 bytes, most significant first, and its bytes.
 //! - stdout: for each case the lines of its answer (frames, or the one frame ff), then a line with a full stop.
-//! Where the debug build panics, 01's domain ends and the answer is 01's, as `panics.rs` finds it; `LE` lines are asked about as `masked.rs` says. An input that an earlier kind has already is left out.
+//! Where the debug build panics, 01's domain ends and the answer is 01's, as `panics.rs` finds it; `LE` lines are asked about as `masked.rs` says. The fields that
+//! the Rust has not (font, multipliers, wide bar) are the definition's, as `fields.rs` reads them. An input that an earlier kind has already is left out.
 
 mod blanks;
 mod corners;
@@ -58,7 +59,7 @@ fn main() -> std::io::Result<()> {
             }
             stdin.extend((input.len() as u32).to_be_bytes());
             stdin.extend(&input);
-            stdout += &answer.lines();
+            stdout += &oracle::fields::told(&input, &answer).lines();
             stdout += ".\n";
         }
         eprintln!("{kind}: {accepted} accepted, {refused} refused, {panics} answered by 01 where the Rust panics");

@@ -17,7 +17,7 @@ returns c =
     let bars = c .before .before .before .before .before .before .before .before .args .b .bars in
     let narrow = back32 (bars .narrow) (told .0 .1) in
     let wide = back32 (bars .wide) (told .1 .0 .1) in
-    rw (back32 (bars .height) (told .1 .1 .0 .1), narrow, simp (narrow, wide) at (c .before .bar-ratio .ensures))
+    rw (back32 (bars .height) (told .1 .1 .0 .1), narrow, wide, simp (narrow, wide) at (c .before .bar-ratio .ensures))
 
 pub interleaved-spec : {M : Type 1} → statement M
 interleaved-spec = tie.close (tie.spec bar-ratio-requires returns)

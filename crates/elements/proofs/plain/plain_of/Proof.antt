@@ -108,7 +108,7 @@ decoded-requires-13 : tie.Need-decoded-requires-13
 decoded-requires-13 c κs = search needs
 
 returns : tie.Need-returns
-returns c = rw (c .before .before .before .before .before .e .given .1) (c .decoded .ensures)
+returns c = rw (c .before .before .before .before .before .before .e .given .1) (c .decoded .ensures)
 
 returns-2 : tie.Need-returns-2
 returns-2 c =
@@ -165,19 +165,21 @@ returns-8 c =
 
 returns-9 : tie.Need-returns-9
 returns-9 c =
-    let h = c .before in
+    let x = c .before in
+    let h = x .before in
     let w = h .before in
     let f = w .before .before .before .before .before .e9 .given .0 .0 in
     rw (w .before .before .before .before .before .e9 .given .1)
-    (rw (back (f .width) (w .struct-told12 .given .1 .0 .1), back (f .barcode .height) (h .struct-told13 .given .1 .0 .1)) at (c .decoded6 .ensures))
+    (rw (back (f .width) (w .struct-told12 .given .1 .0 .1), back (f .barcode .height) (h .struct-told13 .given .1 .0 .1), back (f .wide) (x .struct-told14 .given .1 .1 .0 .1)) at (c .decoded6 .ensures))
 
 returns-10 : tie.Need-returns-10
 returns-10 c =
-    let h = c .before in
+    let x = c .before in
+    let h = x .before in
     let w = h .before in
     let f = w .before .before .before .before .before .e10 .given .0 .0 in
     rw (w .before .before .before .before .before .e10 .given .1)
-    (rw (back (f .width) (w .struct-told14 .given .1 .0 .1), back (f .barcode .height) (h .struct-told15 .given .1 .0 .1)) at (c .decoded7 .ensures))
+    (rw (back (f .width) (w .struct-told15 .given .1 .0 .1), back (f .barcode .height) (h .struct-told16 .given .1 .0 .1), back (f .wide) (x .struct-told17 .given .1 .1 .0 .1)) at (c .decoded7 .ensures))
 
 returns-11 : tie.Need-returns-11
 returns-11 c = rw (c .before .before .before .before .before .e11 .given .1) (c .decoded8 .ensures)
@@ -200,7 +202,7 @@ returns-16 c =
     let w = h .before in
     let f = w .before .before .before .before .before .e16 .given .0 .0 in
     rw (w .before .before .before .before .before .e16 .given .1)
-    (rw (back (f .width) (w .struct-told16 .given .1 .0 .1), back (f .barcode .height) (h .struct-told17 .given .1 .0 .1)) at (c .decoded13 .ensures))
+    (rw (back (f .width) (w .struct-told18 .given .1 .0 .1), back (f .barcode .height) (h .struct-told19 .given .1 .0 .1)) at (c .decoded13 .ensures))
 
 pub plain-of-spec : {M : Type 1} → statement M
 plain-of-spec =

@@ -10,7 +10,7 @@ flag-requires : tie.Need-flag-requires
 flag-requires c κs = search needs
 
 returns : tie.Need-returns
-returns c = rw (c .before .before .before .barred .ensures, c .before .before .flag .ensures) (search needs)
+returns c = rw (c .before .before .before .before .barred .ensures, c .before .before .before .flag .ensures) (search needs)
 
 pub code-39-spec : {M : Type 1} → statement M
 code-39-spec = tie.close (tie.spec barred-requires flag-requires returns)

@@ -13,7 +13,7 @@ flag-requires : tie.Need-flag-requires
 flag-requires c κs = search needs
 
 returns : tie.Need-returns
-returns c = rw (c .before .before .placed .ensures, c .before .rotation .ensures, c .flag .ensures) (search needs)
+returns c = rw (c .before .before .before .before .before .placed .ensures, c .before .before .before .before .rotation .ensures, c .before .before .before .flag .ensures) (search needs)
 
 pub text-field-spec : {M : Type 1} → statement M
 text-field-spec = tie.close (tie.spec placed-requires rotation-requires flag-requires returns)

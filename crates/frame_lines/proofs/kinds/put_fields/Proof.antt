@@ -151,7 +151,7 @@ returns-7 : tie.Need-returns-7
 returns-7 c =
     let put = c .before .before in
     let at = put .before .before .before in
-    fields-told (at .f7 .given .1) (put .put-ratio .ensures)
+    fields-told (at .f7 .given .1) (rw (back32 (at .f7 .given .0 .1 .1 .0) (put .before .before .known-told7 .given .1 .1 .0 .1)) at (put .put-ratio .ensures))
 
 same-length-8 : tie.Need-same-length-8
 same-length-8 c = search needs

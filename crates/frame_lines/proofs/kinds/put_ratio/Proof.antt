@@ -1,5 +1,6 @@
 -- `frame_lines::kinds::put_ratio` meets its contract.
 -- Assumes nothing.
+use mir.Facts.{toZ-ofZ}
 use Rattle.element_frames.specs.Frame.{fieldBytes}
 use Rattle.element_frames.proofs.PutLaws.{then}
 use borrow.Author.Needs.{needs}
@@ -12,6 +13,9 @@ put-bars-requires c κs = search needs
 put-flag-requires : tie.Need-put-flag-requires
 put-flag-requires c κs = search needs
 
+put-i32-requires : tie.Need-put-i32-requires
+put-i32-requires c κs = search needs
+
 put-f64-requires : tie.Need-put-f64-requires
 put-f64-requires c κs = search needs
 
@@ -22,12 +26,14 @@ returns : tie.Need-returns
 unfolding fieldBytes
 returns c =
     let ratio = c .before .before in
-    let check = ratio .before .before .before .before in
+    let wide = ratio .before .before .before .before in
+    let check = wide .before .before .before .before in
     let bars = check .before .before .before .before in
     then (bars .put-bars .ensures)
-    (then (check .put-flag .ensures)
+    (then (then (check .put-flag .ensures)
+    (rw (toZ-ofZ (bars .before .before .before .fits .wide)) at (wide .put-i32 .ensures)))
     (ratio .put-f64 .ensures))
 
 pub put-ratio-spec : {M : Type 1} → statement M
 put-ratio-spec =
-    tie.close (tie.spec put-bars-requires put-flag-requires put-f64-requires same-length returns)
+    tie.close (tie.spec put-bars-requires put-flag-requires put-i32-requires put-f64-requires same-length returns)

@@ -12,6 +12,9 @@ put-rotation-requires c κs = search needs
 put-flag-requires : tie.Need-put-flag-requires
 put-flag-requires c κs = search needs
 
+put-scale-requires : tie.Need-put-scale-requires
+put-scale-requires c κs = search needs
+
 put-f64-requires : tie.Need-put-f64-requires
 put-f64-requires c κs = search needs
 
@@ -26,10 +29,12 @@ unfolding fieldBytes
 returns c =
     let width = c .before .before in
     let height = width .before .before .before .before in
-    let reverse = height .before .before .before .before in
+    let scale = height .before .before .before .before in
+    let reverse = scale .before .before .before .before in
     let turned = reverse .before .before .before .before in
-    then (then (then (turned .put-rotation .ensures)
+    then (then (then (then (turned .put-rotation .ensures)
     (reverse .put-flag .ensures))
+    (scale .put-scale .ensures))
     (height .put-f64 .ensures))
     (width .put-f642 .ensures)
 
@@ -39,6 +44,7 @@ put-text-spec =
     (tie.spec
     put-rotation-requires
     put-flag-requires
+    put-scale-requires
     put-f64-requires
     put-f64-requires-2
     same-length

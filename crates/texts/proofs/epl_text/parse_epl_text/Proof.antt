@@ -108,10 +108,10 @@ returns-2 c =
     simp (
       back32 (x d .number-from .result .value) (told .struct-told .given .0 .1),
       back32 (y d .number-from2 .result .value) (told2 .struct-told2 .given .0 .1),
-      back32 (h d .size-from .result .value) (told3 .struct-told3 .given .0 .1),
-      back32 (d .size-from2 .result .value) (told4 .struct-told4 .given .0 .1),
-      back32 (r d .number-from3 .result .value) (told5 .struct-told5 .given .0 .1),
-      back32 (f d .number-from4 .result .value) (told6 .struct-told6 .given .0 .1),
+      back32 (f d .number-from4 .result .value) (told3 .struct-told3 .given .0 .1),
+      back32 (h d .size-from .result .value) (told4 .struct-told4 .given .0 .1),
+      back32 (d .size-from2 .result .value) (told5 .struct-told5 .given .0 .1),
+      back32 (r d .number-from3 .result .value) (told6 .struct-told6 .given .0 .1),
     )
     at (c .text-element .ensures) in
     (simp (

@@ -25,13 +25,13 @@ at-place d = d .before .before .before .before .before .before .before .before
 known : (d : tie.After-font-info) → let s = start (at-place d) .args in placed (s .f .at .x) (s .f .at .y) (s .reference) ≡ At (d .before .before .before .before .before .before .position .given .0 .0)
 known d = sym (stands (at-place d)) ∙ d .before .before .before .before .before .before .position .given .1
 
-looks : (d : tie.After-font-info) → let f = start (at-place d) .args .f in d .font-info .result ≡ fontOf (f .font) (f .scale .«h_mult») (f .scale .«v_mult») (f .rotation)
+looks : (d : tie.After-font-info) → let f = start (at-place d) .args .f in d .font-info .result ≡ fontOf (f .scale .font) (f .scale .horizontal) (f .scale .vertical) (f .rotation)
 looks d =
     let f = start (at-place d) .args .f in
     simp (
-      back32 (f .font) (d .before .before .before .before .struct-told3 .given .1 .1 .0 .1),
-      back32 (f .scale .«h_mult») (d .before .before .before .struct-told4 .given .0 .1),
-      back32 (f .scale .«v_mult») (d .before .before .struct-told5 .given .1 .0 .1),
+      back32 (f .scale .font) (d .before .before .before .before .struct-told3 .given .0 .1),
+      back32 (f .scale .horizontal) (d .before .before .before .struct-told4 .given .1 .0 .1),
+      back32 (f .scale .vertical) (d .before .before .struct-told5 .given .1 .1 .0 .1),
       back32 (f .rotation) (d .before .struct-told6 .given .1 .0 .1),
     )
     at (d .font-info .ensures)

@@ -1,0 +1,121 @@
+//! The fields of frames that the Rust has not: the font's number and the multipliers of a text (01), the wide bar of 2 of 5 (09) and Code 39 (0a).
+//!
+//! A run against the Rust leaves exactly their bytes out of our frames (`without`). What they hold is told from the input (`told`), by a reading of its lines
+//! that is written from the scope document and shares nothing with the library: font "1 by default", multipliers "1 by default, least value 1", wide bar
+//! "2 by default".
+
+use crate::{block_end, unit_end, Answer};
+
+/// Where they stand in a frame's line and how many numbers they are, in digits: behind kind, x, y, rotation and reverse flag; behind kind, x, y, rotation, narrow,
+/// height, line and check.
+fn place(line: &str) -> Option<(usize, usize)> {
+    match line.get(..2) {
+        Some("01") => Some((22, 3)),
+        Some("09" | "0a") => Some((40, 1)),
+        _ => None,
+    }
+}
+
+/// A frame has such fields.
+pub fn are_in(listing: &str) -> bool {
+    listing.lines().any(|line| place(line).is_some())
+}
+
+/// A listing as the Rust has it.
+pub fn without(listing: &str) -> String {
+    let lines = listing.lines().map(|line| match place(line) {
+        Some((at, n)) if at + 8 * n <= line.len() => format!("{}{}\n", &line[..at], &line[at + 8 * n..]),
+        _ => format!("{line}\n"),
+    });
+    lines.collect()
+}
+
+/// The Rust's answer to an input with these fields in it.
+pub fn told(input: &[u8], answer: &Answer) -> Answer {
+    match answer {
+        Answer::Labels(listing) if are_in(listing) => Answer::Labels(with(listing, printed(input))),
+        other => other.clone(),
+    }
+}
+
+/// The numbers of each element in the order of the listing, put into their frames.
+fn with(listing: &str, elements: Vec<Vec<i32>>) -> String {
+    let mut elements = elements.into_iter();
+    let lines = listing.lines().map(|line| {
+        let numbers = if line.starts_with("00") { Vec::new() } else { elements.next().expect("a frame for each element") };
+        match place(line) {
+            Some((at, n)) => {
+                assert_eq!(numbers.len(), n, "the line behind {line}");
+                let digits: String = numbers.iter().map(|number| format!("{number:08x}")).collect();
+                format!("{}{digits}{}\n", &line[..at], &line[at..])
+            }
+            None => format!("{line}\n"),
+        }
+    });
+    lines.collect()
+}
+
+/// What a unit does: `N`, a print line, an element with its numbers, or nothing that a label shows.
+enum Says {
+    Clear,
+    Print,
+    Element(Vec<i32>),
+    Nothing,
+}
+
+/// The elements of an accepted input that are printed, in order.
+fn printed(input: &[u8]) -> Vec<Vec<i32>> {
+    let (mut printed, mut pending, mut place) = (Vec::new(), Vec::new(), 0);
+    while place < input.len() {
+        let end = unit_end(input, place);
+        let says = match block_end(input, place) {
+            Some(_) => Says::Element(Vec::new()),
+            None => line_says(String::from_utf8_lossy(&input[place..end]).trim()),
+        };
+        match says {
+            Says::Clear => pending.clear(),
+            Says::Print => printed.append(&mut pending),
+            Says::Element(numbers) => pending.push(numbers),
+            Says::Nothing => {}
+        }
+        place = end;
+    }
+    printed.append(&mut pending);
+    printed
+}
+
+/// 01, "Grammar", in its order.
+fn line_says(line: &str) -> Says {
+    let behind = |letter: char| line.strip_prefix(letter);
+    let digits = |text: &str| text.bytes().all(|b| b.is_ascii_digit());
+    if line == "N" {
+        return Says::Clear;
+    }
+    if behind('R').is_some_and(|rest| rest.starts_with(|c: char| c.is_ascii_digit())) {
+        return Says::Nothing;
+    }
+    if line.starts_with(['A', 'B', 'b']) {
+        return match (line.find('"'), line.rfind('"')) {
+            (Some(first), Some(last)) if first + 1 < last => Says::Element(numbers(&line[..1], &line[1..first])),
+            _ => Says::Nothing,
+        };
+    }
+    if ["LO", "LW", "LE", "LS", "X"].iter().any(|letters| line.starts_with(letters)) {
+        return Says::Element(Vec::new());
+    }
+    match behind('P') {
+        Some(rest) if digits(rest) => Says::Print,
+        _ => Says::Nothing,
+    }
+}
+
+/// The numbers of a command with data, by its letter and the fields before the data.
+fn numbers(letter: &str, params: &str) -> Vec<i32> {
+    let field = |k: usize| params.split(',').nth(k).unwrap_or("").trim();
+    let number = |k: usize, default: i32| field(k).parse().unwrap_or(default);
+    match letter {
+        "A" => vec![number(3, 1), number(4, 1).max(1), number(5, 1).max(1)],
+        "B" if ["2", "2C", "2D", "3", "3C"].contains(&field(3)) => vec![number(5, 2)],
+        _ => Vec::new(),
+    }
+}
