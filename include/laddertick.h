@@ -84,7 +84,7 @@ enum {
     LADDERTICK_MAXICODE = 15,
     LADDERTICK_UPC_E = 16,
     LADDERTICK_CLEAR = 17,   /* the pending elements are dropped */
-    LADDERTICK_END = 18,     /* no bytes are left; it is answered again and again */
+    LADDERTICK_END = 18,     /* no bytes are left; it is answered again and again. `next.pending` elements are behind the last print line or clear: no label */
     LADDERTICK_REFUSED = 255 /* `number` and `place`; `next` is the walk as you gave it */
 };
 
@@ -135,7 +135,8 @@ typedef struct laddertick_answer {
 /* The walk before the first byte: place 0, reference 0,0, nothing pending. */
 laddertick_walk laddertick_start(void);
 
-/* The next element, clear, print, end or refusal. Lines that say none of these are passed. At the end a pending label is printed, then the end is answered.
+/* The next element, clear, print, end or refusal. Lines that say none of these are passed. The end prints nothing: where `next.pending` is not 0 then, the file
+   lacks the print line of its last elements, as one that was sent by halves does, and an operator should learn of it.
    Refusals: all but 15. A loop stops at LADDERTICK_END and at LADDERTICK_REFUSED: the next step from there answers the same again. */
 laddertick_answer laddertick_step(const uint8_t *input, size_t input_len, laddertick_walk walk);
 
@@ -152,8 +153,8 @@ typedef struct laddertick_written {
    Refusals: 14, 15. */
 laddertick_written laddertick_data(const uint8_t *input, size_t input_len, size_t start, size_t len, uint8_t *out, size_t out_len);
 
-/* The labels of a file as frames, one a line in hexadecimal (docs/FRAMES.md). The whole file is read before anything is written. 16 * n bytes are always
-   enough for n. Refusals: all but 16. */
+/* The labels of a file as frames, one a line in hexadecimal (docs/FRAMES.md); behind them frame fe, if elements are pending at the end. The whole file is read
+   before anything is written. 16 * n bytes are always enough for n. Refusals: all but 16. */
 laddertick_written laddertick_list(const uint8_t *input, size_t input_len, uint8_t *out, size_t out_len);
 
 /* The file with blanks and empty lines taken away and graphics copied whole. n + n / 6 + 1 bytes are always enough for n. Refusals: 14, 15. */

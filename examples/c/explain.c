@@ -3,7 +3,8 @@
  *
  *     explain FILE
  *
- * Each label is a line with its count, then a line for each element. A refused file is explained on standard error, and nothing else is printed.
+ * Each label is a line with its count, then a line for each element. Elements behind the last print line are no label: a warning on standard error tells how
+ * many there are. A refused file is explained on standard error, and nothing else is printed.
  */
 #include <inttypes.h>
 
@@ -113,6 +114,13 @@ static laddertick_answer walk_file(const char *name, bytes input, int out, size_
     }
 }
 
+/* A file that lacks its last print line may have been sent by halves. */
+static void warn_of_pending(const char *name, size_t n)
+{
+    put_name(name);
+    fprintf(stderr, "%zu %s behind the last print line: no label\n", n, n == 1 ? "element" : "elements");
+}
+
 int main(int argc, char **argv)
 {
     if (argc != 2) {
@@ -129,7 +137,10 @@ int main(int argc, char **argv)
         puts("no labels");
     else
         walk_file(argv[1], input, 1, &labels);
+    /* What goes to standard output is out before the warning. */
     status = flushed(status);
+    if (last.kind == LADDERTICK_END && last.next.pending != 0)
+        warn_of_pending(argv[1], last.next.pending);
     free(input.at);
     return status;
 }

@@ -77,12 +77,13 @@ pub fn compare(lent: &mut Lent, input: &[u8], rust: &Answer) -> Result<(), Strin
 
 /// The listing is the Rust's but for the fields that the Rust has not.
 fn as_the_rust(lent: &mut Lent, input: &[u8], rust: &Answer) -> Result<(), String> {
-    let Answer::Labels(listing) = rust else {
+    let Answer::Labels(_) = rust else {
         return Ok(());
     };
+    let listing = rust.lines();
     let got = lent.call(raw::list, input, 2 * listing.len());
     let ours = String::from_utf8_lossy(lent.written(got.place.min(2 * listing.len())));
-    if got.number == 0 && fields::without(&ours) == *listing {
+    if got.number == 0 && fields::without(&ours) == listing {
         return Ok(());
     }
     Err(format!("{got:?}, and not as the Rust:\n{ours}"))
@@ -90,7 +91,7 @@ fn as_the_rust(lent: &mut Lent, input: &[u8], rust: &Answer) -> Result<(), Strin
 
 fn listed(lent: &mut Lent, input: &[u8], expected: &Answer) -> Result<(), String> {
     match expected {
-        Answer::Labels(text) => written(lent, raw::list, input, text.as_bytes()),
+        Answer::Labels(_) => written(lent, raw::list, input, expected.lines().as_bytes()),
         Answer::Refused(number, place) => refused(lent, raw::list, input, *number, *place),
         Answer::Panic => unreachable!("01 answers every input"),
     }

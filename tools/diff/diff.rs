@@ -40,6 +40,7 @@ fn main() {
     eprintln!("refused by number: {}", by_number.join(", "));
     eprintln!("with LE lines: {}", count(&run.exclusive_or));
     eprintln!("with fields that the Rust has not: {}", count(&run.fields));
+    eprintln!("with elements pending at the end: {}; of these with labels before them: {}", count(&run.pending[0]), count(&run.pending[1]));
     let (cases, differences, accepted) = (count(&run.cases), count(&run.differences), count(&run.accepted));
     let refused: usize = run.refused.iter().map(count).sum();
     let [position, size, kind, maxicode] = [0, 1, 2, 3].map(|i| count(&run.panics[i]));
@@ -63,6 +64,8 @@ struct Run {
     exclusive_or: AtomicUsize,
     /// With fields that the Rust has not, which were left out of the frames and held to the definition.
     fields: AtomicUsize,
+    /// With elements pending at the end; of these with labels that were printed.
+    pending: [AtomicUsize; 2],
     /// By 01's number.
     refused: [AtomicUsize; 20],
     /// By cause: 13; 19; 7, 8 or 9; MaxiCode.
@@ -97,8 +100,11 @@ impl Run {
             Answer::Refused(number, _) => self.refused[*number as usize].fetch_add(1, Relaxed),
             _ => self.accepted.fetch_add(1, Relaxed),
         };
-        if matches!(&expected, Answer::Labels(listing) if fields::are_in(listing)) {
-            self.fields.fetch_add(1, Relaxed);
+        if let Answer::Labels(labels) = &expected {
+            let pending = !labels.pending.is_empty();
+            self.pending[0].fetch_add(pending as usize, Relaxed);
+            self.pending[1].fetch_add((pending && !labels.printed.is_empty()) as usize, Relaxed);
+            self.fields.fetch_add(fields::are_in(labels) as usize, Relaxed);
         }
         if let Some(cause) = cause {
             let kind = [Cause::Position, Cause::Size, Cause::TypeOrSize, Cause::Maxicode].iter().position(|&c| c == cause);

@@ -2,12 +2,12 @@
 //! that it hands on.
 
 use crate::raw::{self, Element, Walk};
-use oracle::Answer;
+use oracle::{Answer, Labels};
 use std::mem::take;
 
 /// Holds the steps from the start against what the input should answer. Each moves on as its kind says; the last one is
-/// answered again from the state that it hands on; and a field that an answer's kind does not name is 0. An error says
-/// in words what is wrong.
+/// answered again from the state that it hands on; the end's has the count of what is pending; and a field that an
+/// answer's kind does not name is 0. An error says in words what is wrong.
 pub fn walked(input: &[u8], expected: &Answer) -> Result<(), String> {
     let (mut walk, mut pending, mut listing) = (raw::start(), Vec::new(), String::new());
     if walk != Walk::default() {
@@ -25,15 +25,17 @@ pub fn walked(input: &[u8], expected: &Answer) -> Result<(), String> {
                 let whole = count > 0 && count == walk.pending && count == pending.len();
                 put_line(&mut listing, &[&[0][..], &number(count as i32)].concat());
                 pending.drain(..).for_each(|frame: Vec<u8>| put_line(&mut listing, &frame));
-                (whole && next.pending == 0 && (further || next.place == input.len()), None)
+                (whole && next.pending == 0 && further, None)
             }
             17 => {
                 pending.clear();
                 (further && next == Walk { place: next.place, ..Walk::default() }, None)
             }
             18 => {
-                let ends = next.place == input.len() && walk.pending == 0 && next.pending == 0;
-                (ends, Some(Answer::Labels(take(&mut listing))))
+                let ends = next.place == input.len() && next.pending == walk.pending && next.pending == pending.len();
+                let mut labels = Labels { printed: take(&mut listing), pending: String::new() };
+                pending.drain(..).for_each(|frame: Vec<u8>| put_line(&mut labels.pending, &frame));
+                (ends, Some(Answer::Labels(labels)))
             }
             255 => (next == walk, Some(Answer::Refused(take(&mut rest.number), take(&mut rest.place)))),
             kind => {
@@ -54,7 +56,7 @@ pub fn walked(input: &[u8], expected: &Answer) -> Result<(), String> {
             if raw::step(input, next) != answer {
                 return wrong("the last answer is not given again");
             }
-            return if last == *expected { Ok(()) } else { Err(format!("the steps give\n{}", last.lines())) };
+            return if last == *expected { Ok(()) } else { Err(format!("the steps give\n{last:?}")) };
         }
         walk = next;
     }

@@ -51,7 +51,7 @@ static const one CASES[] = {
     {"B1,2,3,UE0,4,5,6,B,\"hello\"\n",
      ELEMENT(16, 27, .rotation = 3, .line = 1, .x = 101, .y = 202, .width = 4, .height = 6, .data_start = 29 + 20, .data_len = 5)},
     {"P5\n", {.kind = 0, .count = 2, .next = {100, 200, 0, 32}}},
-    {"", {.kind = 0, .count = 2, .next = {100, 200, 0, 29}}},
+    {"", {.kind = 18, .next = {100, 200, 2, 29}}},
     {"N\n", {.kind = 17, .next = {0, 0, 0, 31}}},
     {"B1,2,3,1D,4,5,6,B,\"hello\"\n", {.kind = 255, .number = 7, .place = 29, .next = {100, 200, 2, 29}}},
 };
@@ -152,7 +152,7 @@ static void null(void)
         written("data of NULL", laddertick_data(NULL, 0, 7, 8, to, (size_t)k), (laddertick_written){0, 0});
     }
     input = (const uint8_t *)"LO5,6,30,4";
-    written("list into NULL", laddertick_list(input, 10, NULL, 0), (laddertick_written){15, 56});
+    written("list into NULL", laddertick_list(input, 10, NULL, 0), (laddertick_written){15, 11});
     written("normalise into NULL", laddertick_normalise(input, 10, NULL, 0), (laddertick_written){15, 11});
     written("data into NULL", laddertick_data(input, 10, 3, 4, NULL, 0), (laddertick_written){15, 4});
     written("a refusal into NULL", laddertick_list((const uint8_t *)"X1", 2, NULL, 0), (laddertick_written){6, 0});

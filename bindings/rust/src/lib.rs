@@ -2,10 +2,14 @@
 //!
 //! ```
 //! let file = b"R10,20\nLO5,6,30,4\nA5,40,0,2,1,1,N,\"Bag 7\"\nP1\n";
-//! for label in laddertick::labels(file) {
+//! let mut labels = laddertick::labels(file);
+//! for label in &mut labels {
 //!     for element in label?.elements {
 //!         println!("{},{} {:?} {:?}", element.x, element.y, element.kind, element.text());
 //!     }
+//! }
+//! if let Some(unprinted) = labels.unprinted() {
+//!     eprintln!("{unprinted}");
 //! }
 //! # Ok::<(), laddertick::Refused>(())
 //! ```
@@ -21,7 +25,7 @@ mod write;
 
 pub use element::{BarMode, Bars, Colour, Element, Kind, QrLevel, Scale};
 pub use refused::Refused;
-pub use walk::{labels, steps, Label, Labels, Step, Steps};
+pub use walk::{labels, steps, Label, Labels, Step, Steps, Unprinted};
 use write::write;
 
 /// The longest input; a longer one is refused 14.
@@ -33,7 +37,8 @@ pub fn normalise(input: &[u8]) -> Result<Vec<u8>, Refused> {
     write(input.len() + input.len() / 6 + 1, |out| raw::normalise(input, out))
 }
 
-/// The labels of a file as frames, one a line in hexadecimal; or the refusal of the earliest refused line.
+/// The labels of a file as frames, one a line in hexadecimal, and behind them frame fe if elements are pending at the end; or the refusal of the earliest
+/// refused line.
 pub fn list(input: &[u8]) -> Result<String, Refused> {
     let bytes = write(0, |out| raw::list(input, out))?;
     Ok(String::from_utf8(bytes).expect("a listing is hexadecimal digits and LF"))

@@ -1,6 +1,7 @@
 use crate::element::{element, Element};
 use crate::raw::{self, Walk};
 use crate::Refused;
+use std::fmt;
 
 /// What a step of a walk answers.
 #[derive(Clone, Debug, PartialEq)]
@@ -12,17 +13,39 @@ pub enum Step<'a> {
     Print(usize),
 }
 
+/// Elements behind the last print line of a file. They are no label: the file may have been sent by halves. In words: "2 elements behind the last print line:
+/// no label".
+#[derive(Clone, Copy, Debug, PartialEq, Eq)]
+pub struct Unprinted {
+    pub elements: usize,
+}
+
+impl fmt::Display for Unprinted {
+    fn fmt(&self, f: &mut fmt::Formatter<'_>) -> fmt::Result {
+        let word = if self.elements == 1 { "element" } else { "elements" };
+        write!(f, "{} {word} behind the last print line: no label", self.elements)
+    }
+}
+
 /// A walk over a file, a step at a time. It ends at the end of the file or behind a refusal.
 #[derive(Clone, Debug)]
 pub struct Steps<'a> {
     input: &'a [u8],
     walk: Walk,
     over: bool,
+    unprinted: Option<Unprinted>,
 }
 
 /// The steps of a file.
 pub fn steps(input: &[u8]) -> Steps<'_> {
-    Steps { input, walk: raw::start(), over: false }
+    Steps { input, walk: raw::start(), over: false, unprinted: None }
+}
+
+impl Steps<'_> {
+    /// Once the end of the file is reached: the elements that no print line printed, if there are any. Of a refused file none.
+    pub fn unprinted(&self) -> Option<Unprinted> {
+        self.unprinted
+    }
 }
 
 impl<'a> Iterator for Steps<'a> {
@@ -39,6 +62,8 @@ impl<'a> Iterator for Steps<'a> {
             17 => Some(Ok(Step::Clear)),
             18 => {
                 self.over = true;
+                let elements = answer.next.pending;
+                self.unprinted = (elements != 0).then_some(Unprinted { elements });
                 None
             }
             255 => {
@@ -57,7 +82,7 @@ pub struct Label<'a> {
 }
 
 /// The labels of a file, in the order in which they are printed. A refusal is the last item; the labels before it were printed before the refused line.
-/// `labels(file).collect::<Result<Vec<_>, _>>()` gives all labels, or the refusal.
+/// `labels(file).collect::<Result<Vec<_>, _>>()` gives all labels, or the refusal; a loop by `&mut labels` can ask for what is [`unprinted`](Labels::unprinted) then.
 #[derive(Clone, Debug)]
 pub struct Labels<'a> {
     steps: Steps<'a>,
@@ -66,6 +91,13 @@ pub struct Labels<'a> {
 /// The labels of a file.
 pub fn labels(input: &[u8]) -> Labels<'_> {
     Labels { steps: steps(input) }
+}
+
+impl Labels<'_> {
+    /// Once the last label was given: the elements behind the last print line, if there are any.
+    pub fn unprinted(&self) -> Option<Unprinted> {
+        self.steps.unprinted()
+    }
 }
 
 impl<'a> Iterator for Labels<'a> {

@@ -1,11 +1,12 @@
 //! Answers that the scope document gives, through the safe crate.
 
-use laddertick::{labels, list, normalise, steps, BarMode, Bars, Colour, Element, Kind, Label, QrLevel, Refused, Scale, Step, LONGEST};
+use laddertick::{labels, list, normalise, steps, BarMode, Bars, Colour, Element, Kind, Label, QrLevel, Refused, Scale, Step, Unprinted, LONGEST};
 
-/// The one element of a file with one label.
+/// The one element of a file with one label, and nothing behind it.
 fn one(file: &[u8]) -> Element<'_> {
-    let mut labels: Vec<Label> = labels(file).collect::<Result<_, _>>().unwrap();
-    assert_eq!(labels.len(), 1);
+    let mut walk = labels(file);
+    let mut labels: Vec<Label> = walk.by_ref().collect::<Result<_, _>>().unwrap();
+    assert_eq!((labels.len(), walk.unprinted()), (1, None));
     assert_eq!(labels[0].elements.len(), 1);
     labels.remove(0).elements.remove(0)
 }
@@ -56,9 +57,10 @@ fn every_kind() {
         (b"b1,2,Q,s4,eL,\"x\"", Kind::Qr { magnification: 4, level: QrLevel::L }, Some("x")),
         (b"b1,2,M,m3,\"\xff\"", Kind::Maxicode { mode: 3 }, Some("\u{fffd}")),
     ];
-    for (file, kind, text) in cases {
-        let element = one(file);
-        assert_eq!((element.x, element.y), (1, 2), "{}", file.escape_ascii());
+    for (line, kind, text) in cases {
+        let file = [line, b"\nP\n"].concat();
+        let element = one(&file);
+        assert_eq!((element.x, element.y), (1, 2), "{}", line.escape_ascii());
         assert_eq!(element.kind, kind);
         assert_eq!(element.text().as_deref(), text);
     }
@@ -75,15 +77,36 @@ fn data_is_the_files() {
 #[test]
 fn steps_clear_and_print() {
     let file = b"N\nLO1,1,1,1\nN\nLO2,2,2,2\nP\nP\nLO3,3,3,3";
-    let said: Vec<String> = steps(file)
+    let mut walk = steps(file);
+    let said: Vec<String> = walk
+        .by_ref()
         .map(|step| match step.unwrap() {
             Step::Element(e) => format!("at {}", e.x),
             Step::Clear => "clear".to_string(),
             Step::Print(n) => format!("print {n}"),
         })
         .collect();
-    assert_eq!(said, ["clear", "at 1", "clear", "at 2", "print 1", "at 3", "print 1"]);
-    assert_eq!(labels(file).count(), 2);
+    assert_eq!(said, ["clear", "at 1", "clear", "at 2", "print 1", "at 3"]);
+    assert_eq!(walk.unprinted(), Some(Unprinted { elements: 1 }));
+    assert_eq!(labels(file).count(), 1);
+}
+
+#[test]
+fn no_print_line_no_label() {
+    let unprinted = |file: &[u8]| {
+        let mut labels = labels(file);
+        // Not before the end is reached.
+        assert_eq!(labels.unprinted(), None);
+        let count = labels.by_ref().filter(|label| label.is_ok()).count();
+        (count, labels.unprinted().map(|unprinted| unprinted.to_string()))
+    };
+    let words = |words: &str| Some(words.to_string());
+    assert_eq!(unprinted(b"LO1,1,1,1\nP\nLO2,2,2,2\nLO3,3,3,3\n"), (1, words("2 elements behind the last print line: no label")));
+    assert_eq!(unprinted(b"LO1,1,1,1"), (0, words("1 element behind the last print line: no label")));
+    assert_eq!(unprinted(b"LO1,1,1,1\nP\n"), (1, None));
+    assert_eq!(unprinted(b"LO1,1,1,1\nN\n"), (0, None));
+    assert_eq!(unprinted(b"LO1,1,1,1\nLO\n"), (0, None));
+    assert_eq!(list(b"LO1,2,3,4\nP\nLO1,1,1,1\nLO2,2,2,2").unwrap().lines().last(), Some("fe00000002"));
 }
 
 #[test]

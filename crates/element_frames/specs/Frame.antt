@@ -152,6 +152,10 @@ frameOf s e = plainFrame s (plainOf e)
 abbrev pub countFrame : ℕ → List ℕ
 countFrame n = 0 ∷ be32 n
 
+-- "fe: count of the elements pending at the end"
+abbrev pub pendingFrame : ℕ → List ℕ
+pendingFrame n = 254 ∷ be32 n
+
 -- "A refusal prints only ff, its number (1 byte), its place"
 abbrev pub refusalFrame : ℕ → ℕ → List ℕ
 refusalFrame number place = 255 ∷ number ∷ be32 place

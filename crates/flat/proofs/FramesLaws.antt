@@ -7,8 +7,8 @@ use Rattle.elements.specs.declared.LabelElement.{LabelElement}
 use Rattle.elements.specs.declared.LabelElement.the-variants as kind
 use Rattle.element_frames.specs.Frame.{be32, head, extentBytes, barBytes, rowBytes, scaleBytes, fieldBytes, frameOf}
 use Rattle.elements.specs.declared.LabelPosition.{LabelPosition}
-use Rattle.whole.specs.Step.{State, Answer, element, cleared, printed, ended, refused}
-use Rattle.walk.specs.Steps.{stateOf}
+use Rattle.whole.specs.Step.{State, element, cleared, printed, ended, refused}
+use Rattle.walk.specs.Steps.{EplAnswer, stateOf}
 use Rattle.flat.specs.Steps.{flatOf}
 use Rattle.flat.specs.Frames.{frameFlat, answerFrame, stateIn}
 
@@ -32,7 +32,7 @@ frame-flat s (kind.BarcodeQr e) st = refl
 frame-flat s (kind.Maxicode e) st = refl
 frame-flat s (kind.BarcodeUcpe e) st = refl
 
-pub flat-frame : (s : List ℕ) (a : Answer LabelPosition LabelElement Unit) → frameFlat s (flatOf a) ≡ answerFrame s a
+pub flat-frame : (s : List ℕ) (a : EplAnswer) → frameFlat s (flatOf a) ≡ answerFrame s a
 flat-frame s (element e st) = frame-flat s e st
 flat-frame s (cleared st) = refl
 flat-frame s (printed n q st) = refl
@@ -43,7 +43,7 @@ pub flat-kind : (e : LabelElement) (st : State LabelPosition)
     → flatOf (element e st) .element .kind ≡ flatOf (element e st) .kind
 flat-kind e st = refl
 
-pub flat-next : (a : Answer LabelPosition LabelElement Unit) → stateOf (flatOf a .next) ≡ stateIn a
+pub flat-next : (a : EplAnswer) → stateOf (flatOf a .next) ≡ stateIn a
 flat-next (element e st) = refl
 flat-next (cleared st) = refl
 flat-next (printed n q st) = refl

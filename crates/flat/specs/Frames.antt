@@ -2,17 +2,16 @@
 -- `laddertick_step`.
 use mathlib.Core.Bool.{cond, _||_}
 use mathlib.Core.List.{List, [], _∷_, _++_}
-use Prim.Native.Nat.{ℕ}
+use Prim.Native.Nat.{ℕ, zero, suc}
 use lib.Dec.{eqb}
 use lib.IntN.{natAbs}
 use lib.ListN.{length}
 use Rattle.elements.specs.declared.DataSpan.{DataSpan}
 use Rattle.elements.specs.declared.LabelPosition.{LabelPosition}
-use Rattle.elements.specs.declared.LabelElement.{LabelElement}
 use Rattle.element_frames.specs.Frame.{be32, number, float, part, sized, decoded, head}
-use Rattle.element_frames.specs.Frame.{frameOf, countFrame, refusalFrame}
+use Rattle.element_frames.specs.Frame.{frameOf, countFrame, pendingFrame, refusalFrame}
 use Rattle.whole.specs.Step.{State, element, cleared, printed, ended, refused}
-use Rattle.whole.specs.Step as theory
+use Rattle.walk.specs.Steps.{EplAnswer}
 use Rattle.flat.specs.declared.answer.FlatAnswer.{FlatAnswer}
 use Rattle.flat.specs.declared.answer.Element.{Element}
 
@@ -64,23 +63,30 @@ restFlat k s e =
 abbrev pub elementFlat : List ℕ → Element → List ℕ
 elementFlat s e = headFlat e ++ restFlat (e .kind) s e
 
--- "00: element count"; "ff, its number (1 byte), its place"; a clear (17) and the end (18) have no frame
+-- the end's: "frame fe and their count, only if there are some"
+abbrev pub endFrame : ℕ → List ℕ
+endFrame zero = []
+endFrame (suc n) = pendingFrame (suc n)
+
+-- "00: element count"; "ff, its number (1 byte), its place"; a clear (17) has no frame; the end (18) has one for what
+-- is pending in its state
 abbrev pub frameFlat : List ℕ → FlatAnswer → List ℕ
 frameFlat s a =
     cond (eqb (a .kind) 0) (countFrame (a .count))
     (cond (eqb (a .kind) 255) (refusalFrame (a .number) (a .place))
-    (cond (eqb (a .kind) 17 || eqb (a .kind) 18) []
-    (elementFlat s (a .element))))
+    (cond (eqb (a .kind) 17) []
+    (cond (eqb (a .kind) 18) (endFrame (a .next .pending))
+    (elementFlat s (a .element)))))
 
 -- the frame of what a step answers, and the state that it returns
-abbrev pub answerFrame : List ℕ → theory.Answer LabelPosition LabelElement Unit → List ℕ
+abbrev pub answerFrame : List ℕ → EplAnswer → List ℕ
 answerFrame s (element e st) = frameOf s e
 answerFrame s (cleared st) = []
 answerFrame s (printed n q st) = countFrame n
-answerFrame s (ended st) = []
+answerFrame s (ended st) = endFrame (st .pending)
 answerFrame s (refused n p st) = refusalFrame n p
 
-abbrev pub stateIn : theory.Answer LabelPosition LabelElement Unit → State LabelPosition
+abbrev pub stateIn : EplAnswer → State LabelPosition
 stateIn (element e st) = st
 stateIn (cleared st) = st
 stateIn (printed n q st) = st

@@ -1,8 +1,8 @@
 -- The flat answers of the static library for those of the theory (01, "Forms that change").
-use Rattle.elements.specs.declared.LabelElement.{LabelElement}
 use Rattle.elements.specs.declared.LabelPosition.{LabelPosition}
 use Rattle.elements.specs.declared.walk_state.WalkState.{WalkState}
-use Rattle.whole.specs.Step.{State, Answer, element, cleared, printed, ended, refused}
+use Rattle.whole.specs.Step.{State, element, cleared, printed, ended, refused}
+use Rattle.walk.specs.Steps.{EplAnswer}
 use Rattle.flat.specs.Flat.{event, answered, flatElement}
 use Rattle.flat.specs.declared.answer.FlatAnswer as flat
 
@@ -13,7 +13,7 @@ walkOf st = record { place = st .place; reference = st .ref; pending = st .pendi
 -- "each step answers an element, a clear, a print, the end or a refusal": an element as 1 to 16, a clear as 17, a print
 -- as 0 ("00: element count"), the end as 18, a refusal as 255 ("ff, its number (1 byte), its place"); each with its
 -- state
-abbrev pub flatOf : Answer LabelPosition LabelElement Unit → flat.FlatAnswer
+abbrev pub flatOf : EplAnswer → flat.FlatAnswer
 flatOf (element e st) = answered (flatElement e) (walkOf st)
 flatOf (cleared st) = event 17 0 0 0 (walkOf st)
 flatOf (printed n q st) = event 0 0 0 n (walkOf st)

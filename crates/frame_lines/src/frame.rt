@@ -3,7 +3,8 @@ ghost use mathlib.Core.Path.{_≡_};
 ghost use Prim.Native.Nat.{_+_, _*_, _≤_, min};
 ghost use lib.ListN.{length};
 ghost use Rattle.text.specs.Wrote.{Put};
-ghost use Rattle.element_frames.specs.Frame.{frameOf, countFrame, refusalFrame};
+ghost use mathlib.Core.List.{_∷_};
+ghost use Rattle.element_frames.specs.Frame.{be32, frameOf, countFrame, pendingFrame, refusalFrame};
 ghost use Rattle.element_frames.specs.Hex.{lineOf};
 ghost use Rattle.element_frames.specs.Put.{PutHex};
 use crate::kinds::fields_len;
@@ -41,14 +42,30 @@ pub fn put_frame(input: &[u8], out: &mut [u8], at: usize, e: LabelElement) -> us
     put_lf(out, a)
 }
 
+// The line of a kind and a count.
+fn put_counted(out: &mut [u8], at: usize, kind: u8, n: usize) -> usize
+    requires { ⌜ at + 11 ≤ length (now out) ⌝ }
+    ensures { λ r. ⌜ Put (now (out .exit)) (now (out .entry)) at (lineOf (kind ∷ be32 n)) r ⌝ }
+{
+    let a = put_byte(out, at, kind);
+    let b = put_u32(out, a, n);
+    put_lf(out, b)
+}
+
 // The line of a label's count.
 pub fn put_count(out: &mut [u8], at: usize, n: usize) -> usize
     requires { ⌜ at + 11 ≤ length (now out) ⌝ }
     ensures { λ r. ⌜ Put (now (out .exit)) (now (out .entry)) at (lineOf (countFrame n)) r ⌝ }
 {
-    let a = put_byte(out, at, 0);
-    let b = put_u32(out, a, n);
-    put_lf(out, b)
+    put_counted(out, at, 0, n)
+}
+
+// The line of the count pending at the end.
+pub fn put_pending(out: &mut [u8], at: usize, n: usize) -> usize
+    requires { ⌜ at + 11 ≤ length (now out) ⌝ }
+    ensures { λ r. ⌜ Put (now (out .exit)) (now (out .entry)) at (lineOf (pendingFrame n)) r ⌝ }
+{
+    put_counted(out, at, 254, n)
 }
 
 // The line of a refusal.

@@ -1,28 +1,27 @@
--- The lengths of lines and labels (`length-lines`, `length-label`), and the walk by the first step's answer, as the
--- loops over the steps want it (`begins`, `moved-by`, `text-by`). The room for a listing is in ListingRoomLaws. Assumes
--- nothing.
+-- The lengths of lines and labels (`length-lines`, `length-label`, `length-pending`), and the walk by the first step's
+-- answer, as the loops over the steps want it (`begins`, `moved-by`, `text-by`). The room for a listing is in
+-- ListingRoomLaws. Assumes nothing.
 use mathlib.Core.Path.{_≡_, refl, sym, ap, _∙_}
 use mathlib.Core.List.{List, [], _∷_, _++_}
 use types.Run.{OneOf, miss}
 use denote.Enum.Declared.{tagOf, declared}
-use Prim.Native.Nat.{ℕ, _+_, _*_}
+use Prim.Native.Nat.{ℕ, zero, suc, _+_, _*_, _<_, _≤_}
 use native.Mathlib.Omega.{arith}
 use lib.ListN.{length, length-append}
-use Rattle.elements.specs.declared.LabelElement.{LabelElement}
-use Rattle.element_frames.specs.Frame.{frameOf, countFrame}
+use Rattle.element_frames.specs.Frame.{frameOf, countFrame, pendingFrame}
 use Rattle.element_frames.specs.Hex.{lineOf}
 use Rattle.element_frames.proofs.HexLaws.{length-line, length-be32}
 use Rattle.whole.specs.Step.{step}
-use Rattle.whole.specs.Trace.{Trace, labelsIn, lead, after, trace, onAnswer, Goes}
-use Rattle.whole.proofs.TraceLaws.{labels-after, trace-by, goes-by}
-use Rattle.grammar.specs.Epl.{epl}
+use Rattle.whole.specs.Trace.{lead, after, trace, onAnswer, Goes}
+use Rattle.whole.proofs.TraceLaws.{final-after, labels-after, trace-by, goes-by}
+use Rattle.grammar.specs.Epl.{EplPrint, epl}
 use Rattle.grammar.proofs.FoundLaws.{reads}
-use Rattle.walk.specs.Steps.{stateOf, answerOf, traceOf}
+use Rattle.walk.specs.Steps.{EplTrace, stateOf, answerOf, traceOf}
 use Rattle.elements.specs.declared.walk_state.WalkState.{WalkState}
 use Rattle.walk.specs.declared.answer.Answer.{Answer}
 use Rattle.walk.specs.declared.answer.Answer.the-variants.{Element, Clear, Print, End, Refused}
 use Rattle.walk.proofs.answer.Answer.{enum}
-use Rattle.frames.specs.Listing.{linesOf, labelLines, listingOf, frontFrames, textFrom}
+use Rattle.frames.specs.Listing.{linesOf, labelLines, pendingLine, listingOf, pendingAt, frontFrames, textOf, textFrom}
 
 pub length-lines : (p : List (List ℕ)) (f : List ℕ) → length (linesOf (p ++ (f ∷ []))) ≡ length (linesOf p) + (2 * length f + 1)
 length-lines [] f = length-append (lineOf f) [] ∙ omega (arith, length-line f)
@@ -31,12 +30,28 @@ length-lines (q ∷ p) f = length-append (lineOf q) (linesOf (p ++ (f ∷ []))) 
 pub length-count : (n : ℕ) → length (lineOf (countFrame n)) ≡ 11
 length-count n = omega (arith, length-line (countFrame n), length-be32 n)
 
-pub length-label : (n : ℕ) (q : Unit) (p : List (List ℕ)) → length (labelLines (record { count = n; says = q; frames = p })) ≡ 11 + length (linesOf p)
+pub length-label : (n : ℕ) (q : EplPrint) (p : List (List ℕ)) → length (labelLines (record { count = n; says = q; frames = p })) ≡ 11 + length (linesOf p)
 length-label n q p = omega (arith, length-append (lineOf (countFrame n)) (linesOf p), length-count n)
+
+-- what is pending at the end has a line, or nothing
+pub pending-some : (n : ℕ) → 0 < n → pendingLine n ≡ lineOf (pendingFrame n)
+pending-some zero h = absurd (omega arith)
+pending-some (suc n) h = refl
+
+pub pending-none : (n : ℕ) → n ≤ 0 → pendingLine n ≡ []
+pending-none zero h = refl
+pending-none (suc n) h = absurd (omega arith)
+
+pub length-pending : (n : ℕ) → 0 < n → length (pendingLine n) ≡ 11
+length-pending n h = ap length (pending-some n h) ∙ omega (arith, length-line (pendingFrame n), length-be32 n)
+
+pub length-pending-le : (n : ℕ) → length (pendingLine n) ≤ 11 * n
+length-pending-le zero = omega arith
+length-pending-le (suc n) = omega (arith, length-pending (suc n) (omega arith))
 
 -- ---- at a step: r is the answer of the step from w, and q what it was matched with
 -- the whole walk by the first step's answer
-abbrev pub onStep : List ℕ → Answer → Trace LabelElement Unit
+abbrev pub onStep : List ℕ → Answer → EplTrace
 onStep s q = onAnswer epl (trace epl s) (answerOf q)
 
 abbrev pub Moved : List ℕ → WalkState → Answer → Type 0
@@ -50,15 +65,18 @@ module _ (s : List ℕ) (w : WalkState) (r q : Answer) (e : answerOf r ≡ step 
   moved-by = goes-by epl reads s (stateOf w) (answerOf q) (ap answerOf (sym k) ∙ e)
 
   pub lead-by : linesOf (frontFrames s w) ≡ linesOf (lead epl (List ℕ) frameOf s (onStep s q))
-  lead-by = ap (λ (t : Trace LabelElement Unit). linesOf (lead epl (List ℕ) frameOf s t)) begins
+  lead-by = ap (λ (t : EplTrace). linesOf (lead epl (List ℕ) frameOf s t)) begins
 
   module _ (start : WalkState) (h : after (traceOf s start) ≡ after (traceOf s w)) where
     pub after-by : after (traceOf s start) ≡ after (onStep s q)
     after-by = h ∙ ap after begins
 
     -- what is left from start, by what follows its elements
-    pub text-by : textFrom s start ≡ listingOf (labelsIn epl (List ℕ) frameOf s (frontFrames s start) (after (onStep s q)))
-    text-by = ap listingOf (labels-after epl reads (List ℕ) frameOf s [] (traceOf s start) ∙ ap (labelsIn epl (List ℕ) frameOf s (frontFrames s start)) after-by)
+    pub text-by : textFrom s start ≡ textOf s (frontFrames s start) (after (onStep s q))
+    text-by =
+        let t = traceOf s start in
+        (λ i. listingOf (labels-after epl reads (List ℕ) frameOf s [] t i) (pendingAt (sym (final-after t) i)))
+        ∙ ap (textOf s (frontFrames s start)) after-by
 
 -- an answer that is no element begins with none
 pub lead-none : (s : List ℕ) (q : Answer) → OneOf (1 ∷ 2 ∷ 3 ∷ 4 ∷ []) (tagOf (declared enum) q) → linesOf (lead epl (List ℕ) frameOf s (onStep s q)) ≡ []

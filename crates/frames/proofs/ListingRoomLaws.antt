@@ -1,7 +1,7 @@
 -- A listing has at most 16 bytes for each byte of its input (`length-listing-le`, `never-short`): an element's line,
--- with that of the label that it may make alone, is paid by its unit. Other laws of listings are in ListingLaws.
--- Assumes nothing.
-use mathlib.Core.Path.{_≡_, refl, sym, subst}
+-- with that of the label that it may make alone, is paid by its unit, and so is the line of what is pending at the end.
+-- Other laws of listings are in ListingLaws. Assumes nothing.
+use mathlib.Core.Path.{_≡_, refl, sym, ap, subst}
 use mathlib.Core.List.{List, [], _∷_, _++_}
 use Prim.Native.Nat.{ℕ, zero, suc, _+_, _-_, _*_, _<_, _≤_}
 use native.Mathlib.Omega.{arith}
@@ -21,11 +21,11 @@ use Rattle.parameters.specs.declared.position.Placed.the-variants as placing
 use Rattle.parameters.specs.declared.reading.LineReading.the-variants as reading
 use Rattle.parameters.specs.Position.{placed, yields}
 use Rattle.whole.specs.Language.{yield}
-use Rattle.whole.specs.Step.{State, Answer, element, cleared, printed, ended, refused, step}
-use Rattle.whole.specs.Reach.{Final, accepted, refusal}
+use Rattle.whole.specs.Step.{State, element, cleared, printed, ended, refused, step}
 use Rattle.elements.specs.Given.{fitting}
-use Rattle.whole.specs.Trace.{Trace, Goes, left, Outcome, listed, refusal-of, ending, final, labelsIn, trace, onAnswer}
+use Rattle.whole.specs.Trace.{Goes, left, listed, refusal-of, final, labelsIn, trace, onAnswer}
 use Rattle.whole.proofs.TraceLaws.{trace-is, goes-step, Paid, paid-step}
+use Rattle.whole.proofs.OutcomeLaws.{ending-listed}
 use Rattle.commands.specs.Line.{readLine}
 use Rattle.grammar.specs.Units.{Header, EplUnit, block, line, last, gw, bytes, number}
 use Rattle.grammar.specs.Epl.{epl, acts, blockSays}
@@ -34,10 +34,10 @@ use Rattle.grammar.proofs.FoundBlockLaws.{block-length}
 use Rattle.grammar.proofs.EplLaws.{act-yields}
 use Rattle.grammar.proofs.WellFormedLengthLaws.{Long, line-long}
 use Rattle.elements.specs.Walk.{fresh}
-use Rattle.walk.specs.Steps.{stateOf, traceOf}
-use Rattle.frames.specs.Listing.{FramedLabel, linesOf, labelLines, listingOf, outcomeOf, listingDue, dueOf}
+use Rattle.walk.specs.Steps.{EplAnswer, EplTrace, stateOf, traceOf}
+use Rattle.frames.specs.Listing.{FramedLabel, FramedOutcome, linesOf, labelLines, listingOf, outcomeOf, listingDue, dueOf, pendingAt, textOf}
 use Rattle.frames.specs.Printing.{shownOf, refusalBy, shownBy, printedOf}
-use Rattle.frames.proofs.ListingLaws.{length-lines, length-label}
+use Rattle.frames.proofs.ListingLaws.{length-lines, length-label, length-pending-le}
 
 -- a line of 2 digits a byte and an LF, and the 11 bytes of frame 00's line
 abbrev Pays : ℕ → LabelElement → Type 0
@@ -78,41 +78,38 @@ unit-pays r (last t) e at q = enough-pays (length t) at e (line-enough (length t
 abbrev most : List ℕ → State LabelPosition → List (List ℕ) → ℕ
 most s st p = length (linesOf p) + 11 * st .pending + 16 * (length s - st .place)
 
-abbrev long : List ℕ → List (List ℕ) → Trace LabelElement Unit → ℕ
-long s p t = length (listingOf (labelsIn epl (List ℕ) frameOf s p t))
+abbrev long : List ℕ → List (List ℕ) → EplTrace → ℕ
+long s p t = length (textOf s p t)
 
-by-answer : (s : List ℕ) (st : State LabelPosition) (p : List (List ℕ)) (a : Answer LabelPosition LabelElement Unit) → Goes s st a → Paid epl reads Pays unit-pays (st .place) a
+by-answer : (s : List ℕ) (st : State LabelPosition) (p : List (List ℕ)) (a : EplAnswer) → Goes s st a → Paid epl reads Pays unit-pays (st .place) a
     → ((st′ : State LabelPosition) (q : List (List ℕ)) → left s st′ < left s st → long s q (trace epl s st′) ≤ most s st′ q)
     → long s p (onAnswer epl (trace epl s) a) ≤ most s st p
 by-answer s st p (element e st′) g m again =
     omega (arith, g .0, g .1, g .2, g .3, m .1, m .2 s, again st′ (p ++ (frameOf s e ∷ [])) (omega (arith, g .1, g .2, g .3)), length-lines p (frameOf s e))
 by-answer s st p (cleared st′) g m again = omega (arith, g .1, g .2, g .3, again st′ [] (omega (arith, g .1, g .2, g .3)))
 by-answer s st p (printed n q st′) g m again =
-    let t = trace epl s st′ in
-    omega (arith, g .1, g .2, g .3, g .4, g .5, again st′ [] (omega (arith, g .1, g .2, g .3, g .4, g .5)), length-label n q p, length-append (labelLines (record { count = n; says = q; frames = p })) (listingOf (labelsIn epl (List ℕ) frameOf s [] t)))
-by-answer s st p (ended st′) g m again = omega arith
+    omega (arith, g .1, g .2, g .3, g .4, g .5, again st′ [] (omega (arith, g .1, g .2, g .3, g .4, g .5)), length-label n q p, length-append (labelLines (record { count = n; says = q; frames = p })) (textOf s [] (trace epl s st′)))
+by-answer s st p (ended st′) g m again = omega (arith, g .2, length-pending-le (st′ .pending))
 by-answer s st p (refused n k st′) g m again = omega arith
 
 bounded : (k : ℕ) (s : List ℕ) (st : State LabelPosition) (p : List (List ℕ)) → left s st < k → long s p (trace epl s st) ≤ most s st p
 bounded zero s st p h = absurd (omega arith)
 bounded (suc k) s st p h =
-    subst (λ (t : Trace LabelElement Unit). long s p t ≤ most s st p) (sym (trace-is epl reads s st))
+    subst (λ (t : EplTrace). long s p t ≤ most s st p) (sym (trace-is epl reads s st))
     (by-answer s st p (step epl s st) (goes-step epl reads s st) (paid-step epl reads Pays unit-pays s st) (λ st′ q b. bounded k s st′ q (omega arith)))
 
-ending-listed : (f : Final) (xs ls : List FramedLabel) → ending f xs ≡ listed ls → xs ≡ ls
-ending-listed accepted xs ls e = cc
-ending-listed (refusal n p) xs ls e = let z : _≡_ {A = ℕ} 0 1 = cc in absurd (omega arith)
-
-pub length-listing-le : (s : List ℕ) (ls : List FramedLabel) → outcomeOf s ≡ listed ls → length (listingOf ls) ≤ 16 * length s
-length-listing-le s ls e =
-    subst (λ (x : List FramedLabel). length (listingOf x) ≤ 16 * length s) (ending-listed (final (traceOf s fresh)) (labelsIn epl (List ℕ) frameOf s [] (traceOf s fresh)) ls e)
-    (omega (arith, bounded (suc (left s (stateOf fresh))) s (stateOf fresh) [] (omega arith)))
+pub length-listing-le : (s : List ℕ) (ls : List FramedLabel) (n : ℕ) → outcomeOf s ≡ listed ls n → length (listingOf ls n) ≤ 16 * length s
+length-listing-le s ls n e =
+    let t = traceOf s fresh in
+    let k = ending-listed (final t) (labelsIn epl (List ℕ) frameOf s [] t) ls n e in
+    let same : textOf s [] t ≡ listingOf ls n = λ i. listingOf (k .1 i) (pendingAt (k .0 i)) in
+    omega (arith, ap length same, bounded (suc (left s (stateOf fresh))) s (stateOf fresh) [] (omega arith))
 
 -- a buffer of 16 bytes for each of 65,536 is never too short
 pub never-short : (s : List ℕ) → length s ≤ 65536 → printedOf s 1048576 ≡ shownOf (dueOf s)
 unfolding refusalBy
 never-short s h = rw (le-ltb 65536 (length s) h) (by (outcomeOf s) (length-listing-le s))
   where
-    by : (o : Outcome (List ℕ) Unit) → ((ls : List FramedLabel) → o ≡ listed ls → length (listingOf ls) ≤ 16 * length s) → shownBy 1048576 (fitting (listingDue o) 1048576) ≡ shownOf (listingDue o)
-    by (listed ls) r = simp (le-ltb 1048576 (length (listingOf ls)) (omega (arith, r ls refl)))
+    by : (o : FramedOutcome) → ((ls : List FramedLabel) (n : ℕ) → o ≡ listed ls n → length (listingOf ls n) ≤ 16 * length s) → shownBy 1048576 (fitting (listingDue o) 1048576) ≡ shownOf (listingDue o)
+    by (listed ls n) r = simp (le-ltb 1048576 (length (listingOf ls n)) (omega (arith, r ls n refl)))
     by (refusal-of n p) r = refl

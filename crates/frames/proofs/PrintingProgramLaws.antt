@@ -15,9 +15,9 @@ use Rattle.text.proofs.WroteLaws.{wrote}
 use Rattle.element_frames.specs.Frame.{refusalFrame}
 use Rattle.element_frames.proofs.HexLaws.{length-line, length-be32}
 use Rattle.elements.specs.Given.{Due, text, denied, fitting}
-use Rattle.whole.specs.Trace.{Outcome, listed, refusal-of}
+use Rattle.whole.specs.Trace.{listed, refusal-of}
 use Rattle.elements.proofs.GivenLaws.{within-long, within-short}
-use Rattle.frames.specs.Listing.{FramedLabel, listingOf, outcomeOf, listingDue, dueOf}
+use Rattle.frames.specs.Listing.{FramedLabel, FramedOutcome, listingOf, outcomeOf, listingDue, dueOf}
 use Rattle.frames.specs.Printing.{refusalBy, shownOf, shownBy, printed, Took, shownFor, Shows}
 use Rattle.frames.proofs.ListingRoomLaws.{length-listing-le}
 
@@ -74,6 +74,6 @@ module _ (due : List ℕ → Due) (l o : List ℕ) (one-more : length l ≡ 6553
 pub listing-room : (s : List ℕ) → length s ≤ 65536 → Room (16 * 65536) (dueOf s)
 listing-room s h = by (outcomeOf s) (length-listing-le s)
   where
-    by : (o : Outcome (List ℕ) Unit) → ((ls : List FramedLabel) → o ≡ listed ls → length (listingOf ls) ≤ 16 * length s) → Room (16 * 65536) (listingDue o)
-    by (listed ls) r t e = let k : listingOf ls ≡ t = cc in omega (arith, r ls refl, ap length k)
+    by : (o : FramedOutcome) → ((ls : List FramedLabel) (n : ℕ) → o ≡ listed ls n → length (listingOf ls n) ≤ 16 * length s) → Room (16 * 65536) (listingDue o)
+    by (listed ls n) r t e = let k : listingOf ls n ≡ t = cc in omega (arith, r ls n refl, ap length k)
     by (refusal-of n p) r t e = no-text (16 * 65536) n p t e

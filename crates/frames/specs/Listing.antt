@@ -1,19 +1,21 @@
--- The listing (01, "Frames"): the lines of the labels that a walk answers, which are due to `list`.
+-- The listing (01, "Frames"): the lines of the labels that a walk answers and of what is pending at its end, which are
+-- due to `list`.
 use mathlib.Core.List.{List, [], _∷_, _++_}
-use Prim.Native.Nat.{ℕ}
-use Rattle.element_frames.specs.Frame.{frameOf, countFrame}
+use Prim.Native.Nat.{ℕ, zero, suc}
+use Rattle.element_frames.specs.Frame.{frameOf, countFrame, pendingFrame}
 use Rattle.element_frames.specs.Hex.{lineOf}
 use Rattle.elements.specs.Given.{Due, text, denied}
 use Rattle.whole.specs.Labels.{Label}
-use Rattle.whole.specs.Trace.{Outcome, listed, refusal-of, outcome, labelsIn, lead}
-use Rattle.grammar.specs.Epl.{epl}
+use Rattle.whole.specs.Reach.{Final, accepted, refusal}
+use Rattle.whole.specs.Trace.{Outcome, listed, refusal-of, outcome, final, labelsIn, lead}
+use Rattle.grammar.specs.Epl.{EplPrint, epl}
 use Rattle.elements.specs.Walk.{fresh}
-use Rattle.walk.specs.Steps.{stateOf, traceOf}
+use Rattle.walk.specs.Steps.{EplTrace, stateOf, traceOf}
 use Rattle.elements.specs.declared.walk_state.WalkState.{WalkState}
 
 -- a label with its elements' frames
 abbrev pub FramedLabel : Type 0
-FramedLabel = Label (List ℕ) Unit
+FramedLabel = Label (List ℕ) EplPrint
 
 -- "prints one frame a line"
 abbrev pub linesOf : List (List ℕ) → List ℕ
@@ -24,18 +26,26 @@ linesOf (f ∷ fs) = lineOf f ++ linesOf fs
 abbrev pub labelLines : FramedLabel → List ℕ
 labelLines l = lineOf (countFrame (l .count)) ++ linesOf (l .frames)
 
--- "labels follow in the order in which they are printed"
-abbrev pub listingOf : List FramedLabel → List ℕ
-listingOf [] = []
-listingOf (l ∷ ls) = labelLines l ++ listingOf ls
+-- "the listing ends with frame fe and their count, only if there are some"
+abbrev pub pendingLine : ℕ → List ℕ
+pendingLine zero = []
+pendingLine (suc n) = lineOf (pendingFrame (suc n))
+
+-- "labels follow in the order in which they are printed", n elements being pending at the end
+abbrev pub listingOf : List FramedLabel → ℕ → List ℕ
+listingOf [] n = pendingLine n
+listingOf (l ∷ ls) n = labelLines l ++ listingOf ls n
+
+abbrev pub FramedOutcome : Type 0
+FramedOutcome = Outcome (List ℕ) EplPrint
 
 -- what the walk of an input lists
-abbrev pub outcomeOf : List ℕ → Outcome (List ℕ) Unit
+abbrev pub outcomeOf : List ℕ → FramedOutcome
 outcomeOf s = outcome epl (List ℕ) frameOf s (stateOf fresh)
 
 -- the listing, or the walk's refusal
-abbrev pub listingDue : Outcome (List ℕ) Unit → Due
-listingDue (listed ls) = text (listingOf ls)
+abbrev pub listingDue : FramedOutcome → Due
+listingDue (listed ls n) = text (listingOf ls n)
 listingDue (refusal-of n p) = denied n p
 
 -- what is due to `list`
@@ -51,9 +61,18 @@ frontFrames s w = lead epl (List ℕ) frameOf s (traceOf s w)
 abbrev pub labelText : List ℕ → ℕ → WalkState → List ℕ
 labelText s n w = labelLines (record { count = n; says = tt; frames = frontFrames s w })
 
--- the labels that the walk from w answers, nothing being pending
+-- the count pending where a walk ends; a refusal lists none
+abbrev pub pendingAt : Final → ℕ
+pendingAt (accepted n) = n
+pendingAt (refusal n p) = 0
+
+-- the labels that a walk answers, p being pending, and what is pending at its end
+abbrev pub textOf : List ℕ → List (List ℕ) → EplTrace → List ℕ
+textOf s p t = listingOf (labelsIn epl (List ℕ) frameOf s p t) (pendingAt (final t))
+
+-- those of the walk from w, nothing being pending
 abbrev pub textFrom : List ℕ → WalkState → List ℕ
-textFrom s w = listingOf (labelsIn epl (List ℕ) frameOf s [] (traceOf s w))
+textFrom s w = textOf s [] (traceOf s w)
 
 abbrev pub allText : List ℕ → List ℕ
 allText s = textFrom s fresh

@@ -1,11 +1,12 @@
-// 01's listing: a label is its frame 00, then the frames of its elements; one line a frame, in hexadecimal. The whole
-// file is walked before anything is written.
+// 01's listing: a label is its frame 00, then the frames of its elements; behind the labels, frame fe with the count of
+// what is pending at the end, if there is any; one line a frame, in hexadecimal. The whole file is walked before
+// anything is written.
 ghost use mathlib.Core.Path.{_≡_};
 ghost use Prim.Native.Nat.{_+_, _≤_};
 ghost use lib.ListN.{length};
 ghost use Rattle.text.specs.Wrote.{Put};
 ghost use Rattle.elements.specs.Given.{needed, Fills, givenOf};
-ghost use Rattle.frames.specs.Listing.{linesOf, frontFrames, labelText, allText, dueOf};
+ghost use Rattle.frames.specs.Listing.{linesOf, frontFrames, labelText, pendingLine, allText, dueOf};
 use elements::filled::Filled;
 use elements::refusal::Refusal;
 use elements::walk_state::WalkState;
@@ -13,6 +14,7 @@ use elements::walk_state::start;
 use frame_lines::frame::frame_len;
 use frame_lines::frame::put_count;
 use frame_lines::frame::put_frame;
+use frame_lines::frame::put_pending;
 use walk::answer::Answer;
 use walk::step::step;
 
@@ -41,8 +43,26 @@ fn put_label(input: &[u8], out: &mut [u8], at: usize, n: usize, first: WalkState
     put_elements(input, out, to, first)
 }
 
-// The labels that the walk answers before its end or refusal. Each is walked twice: to its print for the count, then
-// for its frames.
+// What is pending at the end: n elements, or nothing.
+fn put_end(out: &mut [u8], at: usize, n: usize) -> usize
+    requires { ⌜ at + length (pendingLine n) ≤ length (now out) ⌝ }
+    ensures { λ r. ⌜ Put (now (out .exit)) (now (out .entry)) at (pendingLine n) r ⌝ }
+{
+    if 0 < n {
+        return put_pending(out, at, n);
+    }
+    at
+}
+
+// How long that is.
+fn end_len(n: usize) -> usize
+    ensures { λ r. ⌜ r ≡ length (pendingLine n) ⌝ }
+{
+    if n == 0 { 0 } else { 11 }
+}
+
+// The labels that the walk answers before its end or refusal, and what is pending at the end. Each label is walked
+// twice: to its print for the count, then for its frames.
 fn put_labels(input: &[u8], out: &mut [u8]) -> usize
     requires { ⌜ length (allText (now input)) ≤ length (now out) ⌝ }
     ensures { λ r. ⌜ Put (now (out .exit)) (now (out .entry)) 0 (allText (now (input .entry))) r ⌝ }
@@ -65,7 +85,7 @@ fn put_labels(input: &[u8], out: &mut [u8]) -> usize
                 here = next;
             }
             Answer::End(next) => {
-                return at;
+                return put_end(out, at, next.pending);
             }
             Answer::Refused(next, k, p) => {
                 return at;
@@ -98,6 +118,7 @@ pub(crate) fn measure(input: &[u8]) -> Filled
                 here = next;
             }
             Answer::End(next) => {
+                total += end_len(next.pending);
                 return Filled::Bytes(total);
             }
             Answer::Refused(next, k, p) => {
@@ -107,7 +128,7 @@ pub(crate) fn measure(input: &[u8]) -> Filled
     }
 }
 
-// All labels' frames from the start of out, or a refusal: the walk's, or 15 with the length needed.
+// The whole listing from the start of out, or a refusal: the walk's, or 15 with the length needed.
 pub fn list(input: &[u8], out: &mut [u8]) -> Filled
     ensures { λ r. ⌜ Fills (now (out .exit)) (now (out .entry)) (dueOf (now (input .entry))) (givenOf r) ⌝ }
 {

@@ -14,11 +14,12 @@ use Rattle.elements.specs.declared.LabelPosition.{LabelPosition}
 use Rattle.whole.specs.Language.{First, bad, unit}
 use Rattle.whole.specs.Division.{Division, done, more}
 use Rattle.whole.specs.Labels as labels-of
-use Rattle.whole.specs.Labels.{Label, Run, goes, leaves, effect, Fails}
+use Rattle.whole.specs.Labels.{Label, goes, effect, Fails}
 use Rattle.whole.proofs.DivisionLaws.{bad≢unit, bad≢none, none≢unit, same-unit}
+use Rattle.whole.proofs.RunLaws.{leaves≢goes, goes-inj}
 use Rattle.grammar.specs.Units.{EplUnit, bytes, Stands}
 use Rattle.grammar.specs.Found.{first}
-use Rattle.grammar.specs.Epl.{acts, epl}
+use Rattle.grammar.specs.Epl.{EplPrint, acts, epl}
 use Rattle.grammar.specs.Ranges.{AllFit, numbersOf, Beyond, Beyond13, refAfter, InRange, roleOf}
 use Rattle.grammar.specs.Faults.{Fault}
 use Rattle.grammar.specs.Divided.{Earliest, faulty, beyond, later, together}
@@ -28,18 +29,12 @@ use Rattle.grammar.proofs.DividedLabelsLaws.{role-goes}
 use Rattle.grammar.proofs.FaultsLaws.{first-fault, fault-first, fault-between}
 
 module _ (F : Type 0) (frame : List ℕ → LabelElement → F) where
-  leaves≢goes : {n : ℕ} {x : List (Label F Unit)} {r : LabelPosition} {p : List F} → _≡_ {A = Run LabelPosition F Unit} (leaves n) (goes x r p) → ⊥
-  leaves≢goes e = let z : _≡_ {A = ℕ} 0 1 = cc in omega arith
-
-  goes-ref : {x y : List (Label F Unit)} {r q : LabelPosition} {p o : List F} → _≡_ {A = Run LabelPosition F Unit} (goes x r p) (goes y q o) → r ≡ q
-  goes-ref e = cc
-
   -- a unit over which the run goes on: its numbers fit, and the reference is the one after it
-  went : (r r′ : LabelPosition) (p p′ : List F) (ls : List (Label F Unit)) (u : EplUnit) (rest : List ℕ) → Stands u rest → effect epl F frame r p u (acts r u) ≡ goes ls r′ p′ → AllFit (numbersOf r u) × (r′ ≡ refAfter r u)
+  went : (r r′ : LabelPosition) (p p′ : List F) (ls : List (Label F EplPrint)) (u : EplUnit) (rest : List ℕ) → Stands u rest → effect epl F frame r p u (acts r u) ≡ goes ls r′ p′ → AllFit (numbersOf r u) × (r′ ≡ refAfter r u)
   went r r′ p p′ ls u rest st e = by (acts-unit r u rest st)
     where
       by : ActsAs r u → AllFit (numbersOf r u) × (r′ ≡ refAfter r u)
-      by (inl h) = (h .0, goes-ref (sym e ∙ role-goes F frame (roleOf u) r (refAfter r u) p u (acts r u) (h .1)))
+      by (inl h) = (h .0, goes-inj (sym e ∙ role-goes F frame (roleOf u) r (refAfter r u) p u (acts r u) (h .1)) .1)
       by (inr h) = absurd (leaves≢goes (sym (ap (effect epl F frame r p u) (h .2)) ∙ e))
 
   pub fails-earliest : {s : List ℕ} {at : ℕ} {r : LabelPosition} {p : List F} {n q : ℕ} → Fails epl F frame s at r p n q → Earliest Beyond s at r n q

@@ -1,24 +1,25 @@
--- A division has labels exactly where every unit's numbers fit at the reference that stands there (`InRange`), and they
--- are those that the roles of its units say (`labelsBy`): `in-range-labels`, `labels-in-range`. Refusals are in
--- DividedEarliestLaws. Assumes nothing.
+-- A division has labels exactly where every unit's numbers fit at the reference that stands there (`InRange`); they are
+-- those that the roles of its units say (`labelsBy`), and so is the count pending at its end (`pendingBy`):
+-- `in-range-labels`, `labels-in-range`. Refusals are in DividedEarliestLaws. Assumes nothing.
 use mathlib.Core.Path.{_≡_, refl, sym, ap, _∙_}
-use mathlib.Core.List.{List, _∷_, _++_, append-assoc}
+use mathlib.Core.List.{List, [], _∷_, _++_}
 use mathlib.Core.Logic.{_⊎_, inl, inr}
 use Prim.Native.Nat.{ℕ}
 use native.Mathlib.Omega.{arith}
+use lib.ListN.{length, length-append}
 use Rattle.elements.specs.declared.LabelElement.{LabelElement}
 use Rattle.elements.specs.declared.LabelPosition.{LabelPosition}
 use Rattle.whole.specs.Division.{Division, done, more}
-use Rattle.whole.specs.Labels.{Label, Labels, labels, out, flush, Run, goes, leaves, before, andThen, closed, effect, run, labelsOf}
-use Rattle.grammar.specs.Units.{EplUnit}
-use Rattle.grammar.specs.Epl.{EplAct, acts, epl}
+use Rattle.whole.specs.Labels.{Label, Labels, labels, out, Run, goes, leaves, before, andThen, closed, effect, run, labelsOf}
+use Rattle.grammar.specs.Units.{EplUnit, bytes}
+use Rattle.grammar.specs.Epl.{EplPrint, EplAct, acts, epl}
 use Rattle.grammar.specs.Ranges.{refAfter, InRange, Role, passes, clears, yields, prints, roleOf, Does}
-use Rattle.grammar.specs.Divided.{yieldedBy, pendingAfter, printedBy, labelsBy}
+use Rattle.grammar.specs.Divided.{yieldedBy, pendingAfter, printedBy, labelsBy, countAfter, pendingBy}
 use Rattle.grammar.proofs.RangesLaws.{beyond-unfit, ActsAs, acts-unit}
 
 module _ (F : Type 0) (frame : List ℕ → LabelElement → F) where
   abbrev EplRun : Type 0
-  EplRun = Run LabelPosition F Unit
+  EplRun = Run LabelPosition F EplPrint
 
   -- ---- one unit
   pub role-goes : (k : Role) (r q : LabelPosition) (p : List F) (u : EplUnit) (a : EplAct) → Does k r q a
@@ -28,20 +29,27 @@ module _ (F : Type 0) (frame : List ℕ → LabelElement → F) where
   role-goes yields r q p u a d = rw (d .1, d .2)
   role-goes prints r q p u a d = rw (d .0, d .1)
 
+  role-counts : (k : Role) (r q : LabelPosition) (p : List F) (u : EplUnit) (a : EplAct) → Does k r q a
+      → length (pendingAfter frame k p (yieldedBy frame u a)) ≡ countAfter k (length p)
+  role-counts passes r q p u a d = refl
+  role-counts clears r q p u a d = refl
+  role-counts yields r q p u a d = rw (d .1) (omega (arith, length-append p (frame (bytes u) (d .0) ∷ [])))
+  role-counts prints r q p u a d = refl
+
   -- ---- a division
-  out≢labels : {x : List (Label F Unit)} → _≡_ {A = Labels F Unit} out (labels x) → ⊥
+  out≢labels : {x : List (Label F EplPrint)} {n : ℕ} → _≡_ {A = Labels F EplPrint} out (labels x n) → ⊥
   out≢labels e = let z : _≡_ {A = ℕ} 0 1 = cc in omega arith
 
-  same-labels : {x y : List (Label F Unit)} → _≡_ {A = Labels F Unit} (labels x) (labels y) → x ≡ y
-  same-labels e = cc
+  same-labels : {x y : List (Label F EplPrint)} {m n : ℕ} → _≡_ {A = Labels F EplPrint} (labels x m) (labels y n) → (x ≡ y) × (m ≡ n)
+  same-labels e = (cc, cc)
 
-  closed-before : (ls : List (Label F Unit)) (x : EplRun) (ms : List (Label F Unit)) → closed tt x ≡ labels ms → closed tt (before ls x) ≡ labels (ls ++ ms)
-  closed-before ls (goes ks r p) ms e = ap labels (append-assoc ls ks (flush tt p) ∙ ap (λ (x : List (Label F Unit)). ls ++ x) (same-labels e))
-  closed-before ls (leaves n) ms e = absurd (out≢labels e)
+  closed-before : (ls : List (Label F EplPrint)) (x : EplRun) (ms : List (Label F EplPrint)) (n : ℕ) → closed x ≡ labels ms n → closed (before ls x) ≡ labels (ls ++ ms) n
+  closed-before ls (goes ks r p) ms n e = let k = same-labels e in λ i. labels (ls ++ k .0 i) (k .1 i)
+  closed-before ls (leaves k) ms n e = absurd (out≢labels e)
 
-  -- the labels by the units' roles, or a run that leaves the range
+  -- the labels and the count by the units' roles, or a run that leaves the range
   abbrev Decided : LabelPosition → List F → List EplUnit → Type 0
-  Decided r p us = (InRange r us × (labelsOf epl F frame r p us ≡ labels (labelsBy frame r p us))) ⊎ ((InRange r us → ⊥) × (n : ℕ) × (run epl F frame r p us ≡ leaves n))
+  Decided r p us = (InRange r us × (labelsOf epl F frame r p us ≡ labels (labelsBy frame r p us) (pendingBy (length p) us))) ⊎ ((InRange r us → ⊥) × (n : ℕ) × (run epl F frame r p us ≡ leaves n))
 
   decided : {s : List ℕ} {us : List EplUnit} → Division epl s us → (r : LabelPosition) (p : List F) → Decided r p us
   decided done r p = inl (tt, refl)
@@ -54,29 +62,33 @@ module _ (F : Type 0) (frame : List ℕ → LabelElement → F) where
           after : List F
           after = pendingAfter frame (roleOf u) p (yieldedBy frame u (acts r u))
 
-          ls : List (Label F Unit)
+          ls : List (Label F EplPrint)
           ls = printedBy frame (roleOf u) p
 
           step : run epl F frame r p (u ∷ us) ≡ before ls (run epl F frame (refAfter r u) after us)
           step = ap (λ (x : EplRun). andThen x (λ r′ p′. run epl F frame r′ p′ us)) (role-goes (roleOf u) r (refAfter r u) p u (acts r u) (h .1))
 
+          counts : length after ≡ countAfter (roleOf u) (length p)
+          counts = role-counts (roleOf u) r (refAfter r u) p u (acts r u) (h .1)
+
           on : Decided (refAfter r u) after us → Decided r p (u ∷ us)
-          on (inl i) = inl ((h .0, i .0), ap (closed tt) step ∙ closed-before ls (run epl F frame (refAfter r u) after us) (labelsBy frame (refAfter r u) after us) (i .1))
+          on (inl i) =
+              inl ((h .0, i .0), ap closed step ∙ closed-before ls (run epl F frame (refAfter r u) after us) (labelsBy frame (refAfter r u) after us) (pendingBy (length after) us) (i .1) ∙ ap (λ (n : ℕ). labels (labelsBy frame r p (u ∷ us)) (pendingBy n us)) counts)
           on (inr i) = inr ((λ k. i .0 (k .1)), i .1, step ∙ ap (before ls) (i .2))
 
   module _ {s : List ℕ} {us : List EplUnit} (d : Division epl s us) (r : LabelPosition) (p : List F) where
-    -- a division in range has the labels that its units' roles say
-    pub in-range-labels : InRange r us → labelsOf epl F frame r p us ≡ labels (labelsBy frame r p us)
+    -- a division in range has the labels and the count that its units' roles say
+    pub in-range-labels : InRange r us → labelsOf epl F frame r p us ≡ labels (labelsBy frame r p us) (pendingBy (length p) us)
     in-range-labels i = by (decided d r p)
       where
-        by : Decided r p us → labelsOf epl F frame r p us ≡ labels (labelsBy frame r p us)
+        by : Decided r p us → labelsOf epl F frame r p us ≡ labels (labelsBy frame r p us) (pendingBy (length p) us)
         by (inl h) = h .1
         by (inr h) = absurd (h .0 i)
 
     -- a division that is not in range has no labels
-    pub labels-in-range : (ls : List (Label F Unit)) → labelsOf epl F frame r p us ≡ labels ls → InRange r us × (labelsBy frame r p us ≡ ls)
-    labels-in-range ls e = by (decided d r p)
+    pub labels-in-range : (ls : List (Label F EplPrint)) (n : ℕ) → labelsOf epl F frame r p us ≡ labels ls n → InRange r us × (labelsBy frame r p us ≡ ls) × (pendingBy (length p) us ≡ n)
+    labels-in-range ls n e = by (decided d r p)
       where
-        by : Decided r p us → InRange r us × (labelsBy frame r p us ≡ ls)
-        by (inl h) = (h .0, same-labels (sym (h .1) ∙ e))
-        by (inr h) = absurd (out≢labels (sym (ap (closed tt) (h .2)) ∙ e))
+        by : Decided r p us → InRange r us × (labelsBy frame r p us ≡ ls) × (pendingBy (length p) us ≡ n)
+        by (inl h) = let k = same-labels (sym (h .1) ∙ e) in (h .0, k .0, k .1)
+        by (inr h) = absurd (out≢labels (sym (ap closed (h .2)) ∙ e))

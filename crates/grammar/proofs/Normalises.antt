@@ -15,12 +15,12 @@ use Rattle.parameters.specs.Reading.{laterReading}
 use Rattle.spelling.specs.Command.{isReference, isPrint, commandOf}
 use Rattle.commands.specs.Line.{leadOf, readLine}
 use Rattle.graphics.specs.Block.{opensGw}
-use Rattle.whole.specs.Labels.{Run, goes, leaves, before, andThen, effect, run}
+use Rattle.whole.specs.Labels.{Run, goes, andThen, effect, run}
 use Rattle.whole.specs.Normal.{Solid, none-left, and-then, Normalises}
-use Rattle.whole.proofs.Again.{follow}
+use Rattle.whole.proofs.RunLaws.{follow, before-nil}
 use Rattle.grammar.specs.Units.{EplUnit, block, line, last, bytes, all-nil, Command, Stands}
 use Rattle.grammar.specs.WellFormed.{wellFormed}
-use Rattle.grammar.specs.Epl.{actOf, epl}
+use Rattle.grammar.specs.Epl.{EplPrint, actOf, epl}
 use Rattle.grammar.specs.Normal.{kept, normal, blocks, normalised}
 use Rattle.grammar.proofs.LineFaultsLaws.{well-faultless}
 use Rattle.grammar.proofs.UnitsOpensLaws.{opens-not}
@@ -48,14 +48,10 @@ empty-says : (t : List ℕ) (r : LabelPosition) → trim t ≡ [] → readLine t
 unfolding readLine commandOf isReference isPrint
 empty-says t r e = rw e
 
-before-nil : {R F P : Type 0} (x : Run R F P) → before [] x ≡ x
-before-nil (goes ls r p) = refl
-before-nil (leaves n) = refl
-
 -- frames that look only at an element's own data
 module _ (F : Type 0) (frame : List ℕ → LabelElement → F)
     (local : (pre x post : List ℕ) (e : LabelElement) → In (length x) e → frame (pre ++ (x ++ post)) (shifted (length pre) e) ≡ frame x e) where
-  abbrev does : EplUnit → List ℕ → LabelPosition → List F → Run LabelPosition F Unit
+  abbrev does : EplUnit → List ℕ → LabelPosition → List F → Run LabelPosition F EplPrint
   does u t r p = effect epl F frame r p u (actOf r (readLine t r))
 
   line-frame : (t end : List ℕ) (e : LabelElement) → In (length (trim t)) e → frame (t ++ end) (shifted (leadOf t) e) ≡ frame (trim t) e
@@ -80,7 +76,7 @@ module _ (F : Type 0) (frame : List ℕ → LabelElement → F)
       by (reading.Refused n) h = refl
 
   module _ (us : List EplUnit) where
-    abbrev goOn : LabelPosition → List F → Run LabelPosition F Unit
+    abbrev goOn : LabelPosition → List F → Run LabelPosition F EplPrint
     goOn r p = run epl F frame r p us
 
     -- a line of blanks changes nothing
@@ -92,7 +88,7 @@ module _ (F : Type 0) (frame : List ℕ → LabelElement → F)
         → run epl F frame r p (kept x ++ us) ≡ andThen (does u t r p) goOn
     kept-run u t [] end r p b e = sym (empty-run u t r p (sym e))
     kept-run u t (c ∷ x) end r p b e =
-        ap (λ (d : Run LabelPosition F Unit). andThen d goOn)
+        ap (λ (d : Run LabelPosition F EplPrint). andThen d goOn)
         (line-does (line (c ∷ x)) (c ∷ x) (10 ∷ []) r p refl ∙ ap (λ (y : List ℕ). does (last y) y r p) e ∙ sym (line-does u t end r p b))
 
     normal-run : (u : EplUnit) (r : LabelPosition) (p : List F) → run epl F frame r p (normal u ++ us) ≡ run epl F frame r p (u ∷ us)

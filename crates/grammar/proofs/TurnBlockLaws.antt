@@ -26,7 +26,7 @@ use Rattle.whole.specs.Reading.{Reading, nothing, fault, gives, did, reading, r
 use Rattle.grammar.specs.Units as units
 use Rattle.grammar.specs.Units.{Header, gw, bytes, number}
 use Rattle.grammar.specs.Found.{found, first}
-use Rattle.grammar.specs.Epl.{actOf, acts, epl}
+use Rattle.grammar.specs.Epl.{EplPrint, actOf, acts, epl}
 use Rattle.grammar.proofs.FoundBlockLaws.{block-length, blockSpan, span-sound}
 use Rattle.grammar.proofs.FoundLaws.{span-first}
 
@@ -37,7 +37,7 @@ element≢nothing : {size : ℕ} {e : LabelElement} → block.Element e size ≡
 element≢nothing e = let z : _≡_ {A = ℕ} 0 1 = cc in omega arith
 
 -- what is answered for a block
-abbrev blockTurn : Block → Reading LabelPosition LabelElement Unit
+abbrev blockTurn : Block → Reading LabelPosition LabelElement EplPrint
 blockTurn block.NoBlock = nothing
 blockTurn (block.Element e size) = gives size e
 blockTurn (block.Refused n) = fault (numberOf n)

@@ -1,9 +1,9 @@
--- The labels of a division, and the earliest refused unit (01, "For demand 3"), from the roles of units, their
--- numbers, the reference and the faults.
+-- The labels of a division, how many elements are pending at its end, and the earliest refused unit (01,
+-- "For demand 3"), from the roles of units, their numbers, the reference and the faults.
 use mathlib.Core.Path.{_≡_}
 use mathlib.Core.Bool.{cond}
 use mathlib.Core.List.{List, [], _∷_, _++_}
-use Prim.Native.Nat.{ℕ, _+_}
+use Prim.Native.Nat.{ℕ, suc, _+_}
 use lib.Dec.{eqb}
 use lib.ListN.{length}
 use Rattle.elements.specs.declared.LabelElement.{LabelElement}
@@ -11,7 +11,7 @@ use Rattle.elements.specs.declared.LabelPosition.{LabelPosition}
 use Rattle.whole.specs.Language.{keep, clear, yield, print, outside}
 use Rattle.whole.specs.Labels.{Label, flush}
 use Rattle.grammar.specs.Units.{EplUnit, bytes, Stands}
-use Rattle.grammar.specs.Epl.{EplAct, acts}
+use Rattle.grammar.specs.Epl.{EplPrint, EplAct, acts}
 use Rattle.grammar.specs.Ranges.{AllFit, numbersOf, refAfter, Role, passes, clears, yields, prints, roleOf}
 use Rattle.grammar.specs.Faults.{Fault}
 
@@ -33,18 +33,30 @@ module _ {F : Type 0} (frame : List ℕ → LabelElement → F) where
   pendingAfter yields p f = p ++ f
   pendingAfter prints p f = []
 
-  -- "a print line or the end prints it, if there is any, as a label with its count"
-  abbrev pub printedBy : Role → List F → List (Label F Unit)
+  -- "a print line prints it, if there is any, as a label with its count"
+  abbrev pub printedBy : Role → List F → List (Label F EplPrint)
   printedBy passes p = []
   printedBy clears p = []
   printedBy yields p = []
   printedBy prints p = flush tt p
 
-  -- "go unit by unit", from the reference r with p pending
-  abbrev pub labelsBy : LabelPosition → List F → List EplUnit → List (Label F Unit)
-  labelsBy r p [] = flush tt p
+  -- "go unit by unit", from the reference r with p pending; "The end prints nothing"
+  abbrev pub labelsBy : LabelPosition → List F → List EplUnit → List (Label F EplPrint)
+  labelsBy r p [] = []
   labelsBy r p (u ∷ us) =
       printedBy (roleOf u) p ++ labelsBy (refAfter r u) (pendingAfter (roleOf u) p (yieldedBy u (acts r u))) us
+
+-- how many are pending after a unit of this role, n being pending before it
+abbrev pub countAfter : Role → ℕ → ℕ
+countAfter passes n = n
+countAfter clears n = 0
+countAfter yields n = suc n
+countAfter prints n = 0
+
+-- "elements pending there are no label, and their count is the division's": by the roles of the units alone
+abbrev pub pendingBy : ℕ → List EplUnit → ℕ
+pendingBy n [] = n
+pendingBy n (u ∷ us) = pendingBy (countAfter (roleOf u) n) us
 
 -- "the earliest refused line" of s, which stands at a place with the reference r: number and place; at fault as it
 -- stands, or Out as that number, every unit before it being in range and not at fault

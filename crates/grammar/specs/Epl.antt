@@ -20,9 +20,12 @@ use Rattle.grammar.specs.Found.{first}
 abbrev pub origin : LabelPosition
 origin = record { x = pos 0; y = pos 0 }
 
--- a print line says nothing but that it prints
+-- what a print line says: nothing but that it prints
+abbrev pub EplPrint : Type 0
+EplPrint = Unit
+
 abbrev pub EplAct : Type 0
-EplAct = Act LabelPosition LabelElement Unit
+EplAct = Act LabelPosition LabelElement EplPrint
 
 -- what a reading does at the reference r
 abbrev pub actOf : LabelPosition → LineReading → EplAct
@@ -56,11 +59,10 @@ epl =
       U = EplUnit;
       R = LabelPosition;
       E = LabelElement;
-      P = Unit;
+      P = EplPrint;
       bytes = bytes;
       Stands = Stands;
       first = first;
       act = acts;
       shifted = shifted;
-      closing = tt;
     }

@@ -8,8 +8,8 @@ use Rattle.elements.specs.declared.LabelPosition.{LabelPosition}
 use Rattle.commands.specs.Line.{readLine}
 use Rattle.whole.specs.Reading.{Reading, fault, did}
 use Rattle.grammar.specs.WellFormed.{wellFormed, faultOf}
-use Rattle.grammar.specs.Epl.{actOf}
+use Rattle.grammar.specs.Epl.{EplPrint, actOf}
 
 -- the line t of so many bytes
-abbrev pub lineTurn : ℕ → LabelPosition → List ℕ → Reading LabelPosition LabelElement Unit
+abbrev pub lineTurn : ℕ → LabelPosition → List ℕ → Reading LabelPosition LabelElement EplPrint
 lineTurn size r t = cond (wellFormed (trim t)) (did size (actOf r (readLine t r))) (fault (faultOf (trim t)))

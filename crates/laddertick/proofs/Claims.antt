@@ -17,6 +17,7 @@ use Rattle.element_frames.specs.Frame.{be32, head, frameOf}
 use Rattle.element_frames.proofs.FrameLaws.{frame-local}
 use Rattle.elements.specs.Given.{longest}
 use Rattle.whole.specs.Division.{Division}
+use Rattle.whole.specs.Labels as labels-of
 use Rattle.whole.specs.Labels.{labels, labelsOf}
 use Rattle.whole.specs.Reach as theory
 use Rattle.whole.specs.Reach.{Final, accepted, refusal}
@@ -26,6 +27,7 @@ use Rattle.whole.specs.Claims.{Local, Walks}
 use Rattle.whole.proofs.DivisionLaws.{unique}
 use Rattle.whole.proofs.Whole.{whole}
 use Rattle.whole.proofs.Again.{normal-text}
+use Rattle.whole.proofs.OutcomeLaws.{divides→listed}
 use Rattle.whole.proofs.TraceLaws.{reach-outcome}
 use Rattle.elements.proofs.GivenLaws.{within-short}
 use Rattle.grammar.specs.Units.{EplUnit}
@@ -61,7 +63,7 @@ use Rattle.laddertick.specs.Walked.{Walked, answered}
 use Rattle.laddertick.specs.Claims.{Divides, Normalising, Demand3, Claims, Theorem}
 use Rattle.laddertick.proofs.ColouredLaws.{exclusive-or}
 use Rattle.laddertick.proofs.WalkedLaws.{walked, one-walked, answered-is}
-use Rattle.laddertick.proofs.ContractsLaws.{step-hands-back, list-keeps, normalise-keeps, long-step, long-list, long-normalise, outside, ended-again, data-inside, denies}
+use Rattle.laddertick.proofs.ContractsLaws.{step-hands-back, list-keeps, normalise-keeps, long-step, long-list, long-normalise, outside, end-keeps, ended-again, data-inside, denies}
 use Rattle.laddertick.proofs.ContractsLaws as calls
 use Rattle.laddertick.proofs.Proved.{proved}
 use Rattle.laddertick.proofs.Starred.{starred}
@@ -71,18 +73,22 @@ use Rattle.laddertick.proofs.Distinct.{distinct}
 local : Local epl (List ℕ) frameOf
 local r u e h pre post = frame-local pre (epl .bytes u) post e (inside r u e h)
 
-accepted≢refusal : (n p : ℕ) → _≡_ {A = Final} accepted (refusal n p) → ⊥
-accepted≢refusal n p e = let z : _≡_ {A = ℕ} 0 1 = cc in omega arith
-
 walks : (s : List ℕ) → length s ≤ longest → Walks epl (List ℕ) frameOf origin s
 walks s short = whole epl reads (List ℕ) frameOf local s short origin
 
 -- ---- a division in range, by its labels and by its numbers
-labelled : (s : List ℕ) (ls : List FramedLabel) (d : Divides s ls) → labelsOf epl (List ℕ) frameOf origin [] (d .units) ≡ labels ls
-labelled s ls d = in-range-labels (List ℕ) frameOf (d .division) origin [] (d .range) ∙ ap labels (d .found)
+labelled : (s : List ℕ) (ls : List FramedLabel) (n : ℕ) (d : Divides s ls n) → labelsOf epl (List ℕ) frameOf origin [] (d .units) ≡ labels ls n
+labelled s ls n d = in-range-labels (List ℕ) frameOf (d .division) origin [] (d .range) ∙ (λ i. labels (d .found i) (d .pending i))
 
-divided : (s : List ℕ) (ls : List FramedLabel) (us : List EplUnit) → Division epl s us → labelsOf epl (List ℕ) frameOf origin [] us ≡ labels ls → Divides s ls
-divided s ls us d e = let i = labels-in-range (List ℕ) frameOf d origin [] ls e in record { units = us; division = d; range = i .0; found = i .1 }
+divided : (s : List ℕ) (ls : List FramedLabel) (n : ℕ) (us : List EplUnit) → Division epl s us → labelsOf epl (List ℕ) frameOf origin [] us ≡ labels ls n → Divides s ls n
+divided s ls n us d e = let i = labels-in-range (List ℕ) frameOf d origin [] ls n e in record { units = us; division = d; range = i .0; found = i .1; pending = i .2 }
+
+-- what the claims call divided is what the theory does, and the other way round
+in-theory : (s : List ℕ) (ls : List FramedLabel) (n : ℕ) → Divides s ls n → labels-of.Divides epl (List ℕ) frameOf s origin ls n
+in-theory s ls n d = record { units = d .units; division = d .division; range = labelled s ls n d }
+
+of-theory : (s : List ℕ) (ls : List FramedLabel) (n : ℕ) → labels-of.Divides epl (List ℕ) frameOf s origin ls n → Divides s ls n
+of-theory s ls n d = divided s ls n (d .units) (d .division) (d .range)
 
 module _ (library : Library) where
   -- what `normalise` does with any string within the limit
@@ -100,29 +106,29 @@ module _ (library : Library) where
     code-answered : theory.answered epl (List ℕ) frameOf s [] (theWalk .answers) ≡ answered s [] (byCode .0)
     code-answered = ap (theory.answered epl (List ℕ) frameOf s []) (sym (byCode .2)) ∙ answered-is s [] (byCode .0)
 
-    accepts : (ls : List FramedLabel) → Divides s ls → (theWalk .final ≡ accepted) × (answered s [] (byCode .0) ≡ ls)
-    accepts ls d = let a = theWalk .divides→accepted (d .units) ls (d .division) (labelled s ls d) in (a .0, sym code-answered ∙ a .1)
+    accepts : (ls : List FramedLabel) (n : ℕ) → Divides s ls n → (theWalk .final ≡ accepted n) × (answered s [] (byCode .0) ≡ ls)
+    accepts ls n d = let a = theWalk .divides→accepted ls n (in-theory s ls n d) in (a .0, sym code-answered ∙ a .1)
 
-  normalising-of : (s : List ℕ) (ls : List FramedLabel) → length s ≤ longest → Divides s ls → Normalising library s ls
-  normalising-of s ls short d = record {
+  normalising-of : (s : List ℕ) (ls : List FramedLabel) (n : ℕ) → length s ≤ longest → Divides s ls n → Normalising library s ls n
+  normalising-of s ls n short d = record {
     text = normalised s;
     gives = λ l. normal-gives s l short;
     becomes = λ us c. becomes c;
-    size = n .size;
+    size = t .size;
     accepted-alike = λ k.
-        let a = accepts (normalised s) k ls alike in
+        let a = accepts (normalised s) k ls n alike in
         let c = byCode (normalised s) k in
         (c .0, subst (Walked (library .step (normalised s)) fresh (c .0)) (a .0) (c .1), a .1);
-    again = λ k l. subst (λ (t : List ℕ). Gives t l (library .normalise (normalised s) l)) (n .again) (normal-gives (normalised s) l k);
+    again = λ k l. subst (λ (x : List ℕ). Gives x l (library .normalise (normalised s) l)) (t .again) (normal-gives (normalised s) l k);
     divides = alike;
-    same-blocks = λ us vs p q. ap (each blocks) (unique epl reads refl q (n .division)) ∙ n .same-blocks ∙ ap (each blocks) (unique epl reads refl (d .division) p);
+    same-blocks = λ us vs p q. ap (each blocks) (unique epl reads refl q (t .division)) ∙ t .same-blocks ∙ ap (each blocks) (unique epl reads refl (d .division) p);
   }
     where
-      n : Normal epl (List ℕ) frameOf normalised blocks origin s (d .units)
-      n = normal-text epl (List ℕ) frameOf normalised blocks normal (normalises (List ℕ) frameOf frame-local) origin (d .division)
+      t : Normal epl (List ℕ) frameOf normalised blocks origin s (d .units)
+      t = normal-text epl (List ℕ) frameOf normalised blocks normal (normalises (List ℕ) frameOf frame-local) origin (d .division)
 
-      alike : Divides (normalised s) ls
-      alike = divided (normalised s) ls (n .vs) (n .division) (n .same-labels ∙ labelled s ls d)
+      alike : Divides (normalised s) ls n
+      alike = divided (normalised s) ls n (t .vs) (t .division) (t .same-labels ∙ labelled s ls n d)
 
   demand-of : (s : List ℕ) → length s ≤ longest → Demand3 library s
   demand-of s short = record {
@@ -131,14 +137,14 @@ module _ (library : Library) where
     final = w .final;
     reached = c .1;
     one-walk = λ ys f y. one-walked (library .step s) y (c .1);
-    accepted-exactly = ((λ e. let d = divides e .1 in (d .units, d .division, d .range)), λ x. accepts s short _ (record { units = x .0; division = x .1; range = x .2; found = refl }) .0);
+    accepted-exactly = ((λ e. let d = divides (e .0) (e .1) .1 in (d .units, d .division, d .range)), λ x. (_, accepts s short _ _ (record { units = x .0; division = x .1; range = x .2; found = refl; pending = refl }) .0));
     divides-accepted = accepts s short;
     accepted-divides = divides;
     else-refused = λ none. refused (w .final) refl none;
     earliest = λ n p. (to-earliest n p, of-earliest n p);
     covered = λ n p. ((λ x. subst (λ (k : ℕ). Earliest Beyond13 s 0 origin k p) (x .2) (earliest-together (to-earliest (x .0) p (x .1)))), λ e. let k = together-earliest e in (k .0, of-earliest (k .0) p (k .1), k .2));
-    normalising = λ ls d. normalising-of s ls short d;
-    lists-division = λ ls d l. calls.gives (dueOf s) l (library .list s l) (listingOf ls) (ap listingDue (outcome-is ∙ (λ i. ending (accepts s short ls d .0 i) (as-listed ls d i)))) (library .lists s l);
+    normalising = λ ls n d. normalising-of s ls n short d;
+    lists-division = λ ls n d l. calls.gives (dueOf s) l (library .list s l) (listingOf ls n) (ap listingDue (divides→listed epl reads (List ℕ) frameOf local s short origin ls n (in-theory s ls n d))) (library .lists s l);
     lists-refusal = λ n p e l. denies (dueOf s) l (library .list s l) (ap listingDue (outcome-is ∙ ap (λ (f : Final). ending f (theory.answered epl (List ℕ) frameOf s [] (w .answers))) e)) (library .lists s l);
   }
     where
@@ -151,14 +157,11 @@ module _ (library : Library) where
       outcome-is : outcomeOf s ≡ ending (w .final) (theory.answered epl (List ℕ) frameOf s [] (w .answers))
       outcome-is = reach-outcome epl reads (List ℕ) frameOf (w .ends)
 
-      as-listed : (ls : List FramedLabel) → Divides s ls → theory.answered epl (List ℕ) frameOf s [] (w .answers) ≡ ls
-      as-listed ls d = code-answered s short ∙ accepts s short ls d .1
+      divides : (n : ℕ) → w .final ≡ accepted n → (ls : List FramedLabel) × Divides s ls n
+      divides n e = let i = w .accepted→divides n e in (i .0, of-theory s (i .0) n (i .1))
 
-      divides : w .final ≡ accepted → (ls : List FramedLabel) × Divides s ls
-      divides e = let i = w .accepted→divides e in (i .found, divided s (i .found) (i .units) (i .division) (i .range))
-
-      refused : (f : Final) → w .final ≡ f → ((ls : List FramedLabel) → Divides s ls → ⊥) → (n : ℕ) × (p : ℕ) × (w .final ≡ refusal n p)
-      refused accepted e none = let d = divides e in absurd (none (d .0) (d .1))
+      refused : (f : Final) → w .final ≡ f → ((ls : List FramedLabel) (n : ℕ) → Divides s ls n → ⊥) → (n : ℕ) × (p : ℕ) × (w .final ≡ refusal n p)
+      refused (accepted n) e none = let d = divides n e in absurd (none (d .0) n (d .1))
       refused (refusal n p) e none = (n, p, e)
 
       to-earliest : (n p : ℕ) → w .final ≡ refusal n p → Earliest Beyond s 0 origin n p
@@ -169,7 +172,7 @@ module _ (library : Library) where
       of-earliest n p x = by (w .final) refl
         where
           by : (f : Final) → w .final ≡ f → f ≡ refusal n p
-          by accepted e = let d = divides e .1 in absurd (divides-no-earliest (d .division) (d .range) x)
+          by (accepted m) e = let d = divides m e .1 in absurd (divides-no-earliest (d .division) (d .range) x)
           by (refusal m q) e = let o = one-earliest (to-earliest m q e) x in λ i. refusal (o .0 i) (o .1 i)
 
 -- ---- demand 1: the numbers of refusals
@@ -214,6 +217,7 @@ claims library = record {
     long-normalise = long-normalise library;
     outside = outside library;
     inside = calls.inside library;
+    end-keeps = end-keeps library;
     ended-again = ended-again library;
     data-inside = data-inside library;
     numbered = numbered-of;

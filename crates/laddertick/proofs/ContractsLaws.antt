@@ -1,6 +1,7 @@
 -- Demand 1, of functions that meet the contracts: what a refused call leaves, when it is refused as 14 and as 16, and
--- that the end is answered again (the laws that `demand1` of the claims names); the sizes of what a step answers
--- (`sized`); and what a call that fills a buffer gives, by what is due to it (`gives`, `denies`). Assumes nothing.
+-- that the end keeps what is pending and is answered again (the laws that `demand1` of the claims names); the sizes of
+-- what a step answers (`sized`); and what a call that fills a buffer gives, by what is due to it (`gives`, `denies`).
+-- Assumes nothing.
 use mathlib.Core.Path.{_≡_, sym, ap, subst, _∙_}
 use mathlib.Core.Bool.{Bool, true, false, cond, _||_}
 use mathlib.Core.List.{List, []}
@@ -24,19 +25,19 @@ use Rattle.element_frames.specs.Frame.{frameOf}
 use Rattle.elements.specs.Given.{Due, text, denied, Fills, givenOf, longest}
 use Rattle.whole.specs.Step.{State, handing, answer, step}
 use Rattle.whole.specs.Step as theory
-use Rattle.whole.specs.Trace.{Trace, final, Within, ending, refusal-of, onAnswer, trace, labelsIn}
+use Rattle.whole.specs.Trace.{refuses, final, Within, ending, refusal-of, onAnswer, trace, labelsIn}
 use Rattle.elements.proofs.GivenLaws.{fills-kept, text-written, text-short, refusal-due, within-long}
 use Rattle.whole.proofs.TurnLaws.{step-long, step-past, step-many}
-use Rattle.whole.proofs.TraceLaws.{trace-is}
-use Rattle.whole.proofs.EndLaws.{Says, says-step}
-use Rattle.whole.proofs.EndLaws as end
+use Rattle.whole.proofs.TraceLaws.{trace-is, goes-by}
+use Rattle.whole.proofs.TraceLaws as trace-laws
+use Rattle.whole.proofs.RefusalLaws.{Says, says-step}
 use Rattle.grammar.specs.Epl.{epl}
 use Rattle.grammar.proofs.FoundLaws.{reads}
 use Rattle.grammar.proofs.RangesLaws.{outside-numbers}
 use Rattle.grammar.proofs.FaultsLaws.{first-fault, fault-between}
 use Rattle.walk.specs.declared.answer.Answer.{Answer}
 use Rattle.walk.specs.declared.answer.Answer.the-variants.{Element, Clear, Print, End, Refused}
-use Rattle.walk.specs.Steps.{stateOf, answerOf}
+use Rattle.walk.specs.Steps.{EplTrace, stateOf, answerOf}
 use Rattle.flat.specs.Steps.{walkOf}
 use Rattle.frames.specs.Listing.{outcomeOf, listingDue, dueOf}
 use Rattle.format.specs.Normalise as normal
@@ -85,7 +86,7 @@ refused-line : {n : ℕ} → (n ≡ 13) ⊎ (n ≡ 19) → Line n
 refused-line (inl e) = inl (omega arith, omega arith)
 refused-line (inr e) = inr e
 
-step-inside : (s : List ℕ) (st : State LabelPosition) → Within s st → Says Line (length s) (step epl s st)
+step-inside : (s : List ℕ) (st : State LabelPosition) → Within s st → Says Line (step epl s st)
 step-inside s st w =
     says-step epl reads Line
     (λ t n e. let b = fault-between (first-fault t n e) in inl (b .0, omega (arith, b .1)))
@@ -95,8 +96,8 @@ step-inside s st w =
 -- a string over the limit lists nothing
 outcome-long : (s : List ℕ) → longest < length s → outcomeOf s ≡ refusal-of 14 0
 outcome-long s h =
-    let t : trace epl s (stateOf fresh) ≡ Trace.refuses 14 0 = trace-is epl reads s (stateOf fresh) ∙ ap (onAnswer epl (trace epl s)) (step-long epl s (stateOf fresh) h) in
-    ap (λ (x : Trace LabelElement Unit). ending (final x) (labelsIn epl (List ℕ) frameOf s [] x)) t
+    let t : trace epl s (stateOf fresh) ≡ refuses 14 0 = trace-is epl reads s (stateOf fresh) ∙ ap (onAnswer epl (trace epl s)) (step-long epl s (stateOf fresh) h) in
+    ap (λ (x : EplTrace). ending (final x) (labelsIn epl (List ℕ) frameOf s [] x)) t
 
 -- ---- answers of the code
 end-is : (r : Answer) (w : WalkState) → answerOf r ≡ theory.ended (stateOf w) → r ≡ End w
@@ -148,10 +149,13 @@ module _ (library : Library) where
   outside s w short o = library .steps s w ∙ step-outside s w short o
 
   pub inside : (s : List ℕ) (w : WalkState) → length s ≤ longest → (Outside s w → ⊥) → (k : Refusal) (p : ℕ) (w′ : WalkState) → library .step s w ≡ Refused w′ k p → Line (numberOf k)
-  inside s w short n k p w′ h = subst (Says Line (length s)) (answers-as s w h) (step-inside s (stateOf w) (within-of s w short n))
+  inside s w short n k p w′ h = subst (Says Line) (answers-as s w h) (step-inside s (stateOf w) (within-of s w short n))
+
+  pub end-keeps : (s : List ℕ) (w w′ : WalkState) → library .step s w ≡ End w′ → (w′ .place ≡ length s) × (w′ .pending ≡ w .pending)
+  end-keeps s w w′ h = let g = goes-by epl reads s (stateOf w) (answerOf (End w′)) (sym (answers-as s w h)) in (g .1, g .2)
 
   pub ended-again : (s : List ℕ) (w w′ : WalkState) → library .step s w ≡ End w′ → library .step s w′ ≡ End w′
-  ended-again s w w′ h = end-is (library .step s w′) w′ (library .steps s w′ ∙ end.ended-again epl reads s (stateOf w) (stateOf w′) (answers-as s w h))
+  ended-again s w w′ h = end-is (library .step s w′) w′ (library .steps s w′ ∙ trace-laws.ended-again epl reads s (stateOf w) (stateOf w′) (answers-as s w h))
 
   pub data-inside : (s : List ℕ) (w w′ : WalkState) (e : LabelElement) → library .step s w ≡ Element w′ e → In (length s) e
   data-inside s w w′ e h = inside-laws.data-inside s (stateOf w) (stateOf w′) e (answers-as s w h)

@@ -11,12 +11,13 @@ use Rattle.elements.specs.declared.DataSpan.{DataSpan}
 use Rattle.elements.specs.declared.LabelElement.{LabelElement}
 use Rattle.elements.specs.declared.LabelPosition.{LabelPosition}
 use Rattle.elements.specs.Spans.{later, spans, AllIn, In}
-use Rattle.whole.specs.Language.{First, none, bad, unit, Act, keep, clear, yield, print, outside}
+use Rattle.whole.specs.Language.{First, none, bad, unit, keep, clear, yield, print, outside}
 use Rattle.elements.specs.Given.{longest}
-use Rattle.whole.specs.Step.{State, state, Answer, element, cleared, printed, ended, refused, handing, printing, onAct, onFirst, answerBy, answer, step}
+use Rattle.whole.specs.Step.{State, element, cleared, printed, ended, refused, handing, printing, onAct, onFirst, answerBy, answer, step}
 use Rattle.grammar.specs.Units.{EplUnit, bytes}
-use Rattle.grammar.specs.Epl.{acts, epl}
+use Rattle.grammar.specs.Epl.{EplPrint, EplAct, acts, epl}
 use Rattle.grammar.proofs.FoundLaws.{reads}
+use Rattle.walk.specs.Steps.{EplAnswer}
 use Rattle.elements.proofs.PlainLaws.{spans-shifted}
 use Rattle.grammar.proofs.EplLaws.{inside}
 
@@ -25,24 +26,24 @@ all-in-later n m end [] h a = tt
 all-in-later n m end (d ∷ ds) h a = (omega arith, all-in-later n m end ds h (a .1))
 
 -- an answer's data lies in the first n bytes
-abbrev Lies : ℕ → Answer LabelPosition LabelElement Unit → Type 0
+abbrev Lies : ℕ → EplAnswer → Type 0
 Lies n (element e st) = In n e
 Lies n (cleared st) = Unit
 Lies n (printed k q st) = Unit
 Lies n (ended st) = Unit
 Lies n (refused k p st) = Unit
 
-lies-print : (end : ℕ) (a : Answer LabelPosition LabelElement Unit) (at : ℕ) (r : LabelPosition) (n : ℕ) → Lies end a → Lies end (printing epl tt a at r n)
-lies-print end a at r zero m = m
-lies-print end a at r (suc n) m = tt
+lies-print : (end : ℕ) (q : EplPrint) (a : EplAnswer) (at : ℕ) (r : LabelPosition) (n : ℕ) → Lies end a → Lies end (printing epl q a at r n)
+lies-print end q a at r zero m = m
+lies-print end q a at r (suc n) m = tt
 
-lies-act : (go : ℕ → LabelPosition → Answer LabelPosition LabelElement Unit) (a : Act LabelPosition LabelElement Unit) (u : EplUnit) (at end : ℕ) (r : LabelPosition) (n : ℕ)
+lies-act : (go : ℕ → LabelPosition → EplAnswer) (a : EplAct) (u : EplUnit) (at end : ℕ) (r : LabelPosition) (n : ℕ)
     → acts r u ≡ a → at + length (bytes u) ≤ end → ((r′ : LabelPosition) → Lies end (go (at + length (bytes u)) r′)) → Lies end (onAct epl go a u at r n)
 lies-act go (keep r′) u at end r n e h again = again r′
 lies-act go (clear r′) u at end r n e h again = tt
 lies-act go (yield x) u at end r n e h again =
     subst (AllIn end) (sym (spans-shifted at x)) (all-in-later at (length (bytes u)) end (spans x) h (inside r u x e))
-lies-act go (print q) u at end r n e h again = lies-print end (go (at + length (bytes u)) r) (at + length (bytes u)) r n (again r)
+lies-act go (print q) u at end r n e h again = lies-print end q (go (at + length (bytes u)) r) (at + length (bytes u)) r n (again r)
 lies-act go (outside k) u at end r n e h again = tt
 
 lies-answer : (k : ℕ) (rest : List ℕ) (at end : ℕ) (r : LabelPosition) (n : ℕ) → at + length rest ≤ end → Lies end (answerBy epl k rest at r n)
@@ -51,13 +52,13 @@ lies-answer (suc k) rest at end r n h = go (λ rest′ at′ r′ l. lies-answer
   where
     go : ((rest′ : List ℕ) (at′ : ℕ) (r′ : LabelPosition) → at′ + length rest′ ≤ end → Lies end (answerBy epl k rest′ at′ r′ n))
         → (o : First EplUnit) → epl .first rest ≡ o → Lies end (onFirst epl (λ rest′ at′ r′. answerBy epl k rest′ at′ r′ n) o at r n)
-    go again none e = lies-print end (ended (state at r 0)) at r n tt
+    go again none e = tt
     go again (bad j) e = tt
     go again (unit u rest′) e =
         let b : length rest ≡ length (bytes u) + length rest′ = ap length (reads .sound rest u rest′ e .0) ∙ length-append (bytes u) rest′ in
         lies-act (λ at′ r′. answerBy epl k rest′ at′ r′ n) (acts r u) u at end r n refl (omega arith) (λ r′. again rest′ (at + length (bytes u)) r′ (omega arith))
 
-lies-handed : (end : ℕ) (g : State LabelPosition) (a : Answer LabelPosition LabelElement Unit) → Lies end a → Lies end (handing g a)
+lies-handed : (end : ℕ) (g : State LabelPosition) (a : EplAnswer) → Lies end a → Lies end (handing g a)
 unfolding handing
 lies-handed end g (element e st) m = m
 lies-handed end g (cleared st) m = tt

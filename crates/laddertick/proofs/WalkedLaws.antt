@@ -4,18 +4,16 @@ use mathlib.Core.Path.{_≡_, refl, sym, ap, _∙_}
 use mathlib.Core.List.{List, [], _∷_, _++_, map}
 use Prim.Native.Nat.{ℕ}
 use native.Mathlib.Omega.{arith}
-use Rattle.elements.specs.declared.LabelElement.{LabelElement}
 use Rattle.elements.specs.declared.LabelPosition.{LabelPosition}
 use Rattle.elements.specs.declared.walk_state.WalkState.{WalkState}
 use Rattle.element_frames.specs.Frame.{frameOf}
-use Rattle.whole.specs.Step.{State, step}
-use Rattle.whole.specs.Step as stepping
+use Rattle.whole.specs.Step.{State}
 use Rattle.whole.specs.Reach as theory
 use Rattle.whole.specs.Reach.{Final, Then, then, Reach}
 use Rattle.grammar.specs.Epl.{epl}
 use Rattle.walk.specs.declared.answer.Answer.{Answer}
 use Rattle.walk.specs.declared.answer.Answer.the-variants.{Element, Clear, Print, End, Refused}
-use Rattle.walk.specs.Steps.{answerOf}
+use Rattle.walk.specs.Steps.{EplAnswer, answerOf}
 use Rattle.flat.specs.Steps.{walkOf}
 use Rattle.laddertick.specs.Contracts.{Stepped}
 use Rattle.laddertick.specs.Walked.{Next, on-from, over, next, Walked, stop, go-on, answered}
@@ -66,7 +64,7 @@ module _ (f : WalkState → Answer) where
 
 -- ---- the walk, and what it answered
 module _ (g : List ℕ → WalkState → Answer) (meets : (s : List ℕ) (w : WalkState) → Stepped s w (g s w)) (s : List ℕ) where
-  pub walked : {st : State LabelPosition} {bs : List (stepping.Answer LabelPosition LabelElement Unit)} {z : Final} → Reach epl s st bs z
+  pub walked : {st : State LabelPosition} {bs : List (EplAnswer)} {z : Final} → Reach epl s st bs z
       → (xs : List Answer) × Walked (g s) (walkOf st) xs z × (map answerOf xs ≡ bs)
   walked (theory.stop {st} {f} h) = ([], stop (next-over (g s (walkOf st)) f (ap then (meets s (walkOf st)) ∙ h)), refl)
   walked (theory.go-on {st} {st′} {a} {xs} {f} h k b) =

@@ -30,7 +30,6 @@ use Rattle.commands.specs.Line.{readLine}
 use Rattle.whole.specs.Language.{bad, yield, outside}
 use Rattle.whole.specs.Division.{Division}
 use Rattle.elements.specs.Given.{longest}
-use Rattle.whole.specs.Step as theory
 use Rattle.whole.specs.Step.{State, element, cleared, ended, refused}
 use Rattle.whole.specs.Reach.{Final, accepted, refusal}
 use Rattle.whole.specs.Trace.{listed}
@@ -47,12 +46,12 @@ use Rattle.grammar.specs.Shapes.{kindOf, placeOf, Shape}
 use Rattle.grammar.specs.NumberField.{NumberField}
 use Rattle.grammar.specs.LineFaults.{LineFault}
 use Rattle.grammar.specs.Faults.{Fault}
-use Rattle.grammar.specs.Divided.{labelsBy, Earliest, together}
+use Rattle.grammar.specs.Divided.{labelsBy, pendingBy, Earliest, together}
 use Rattle.grammar.specs.Becomes.{Becomes}
 use Rattle.grammar.specs.Normal.{blocks, normalised}
 use Rattle.walk.specs.declared.answer.Answer.{Answer}
 use Rattle.walk.specs.declared.answer.Answer.the-variants.{Element, End, Refused}
-use Rattle.walk.specs.Steps.{stateOf, answerOf}
+use Rattle.walk.specs.Steps.{EplAnswer, stateOf, answerOf}
 use Rattle.flat.specs.Steps.{flatOf}
 use Rattle.flat.specs.Frames.{frameFlat, answerFrame, stateIn}
 use Rattle.frames.specs.Listing.{FramedLabel, listingOf, outcomeOf, dueOf}
@@ -67,13 +66,15 @@ use Rattle.laddertick.specs.Starred as starred
 use Rattle.laddertick.specs.Distinct as distinct
 
 -- "the string divides end to end into graphic blocks and command lines by 01's grammar with every position and size
--- within signed 32 bits", and has these labels
-pub record Divides (s : List ℕ) (ls : List FramedLabel) : Type 0 where
+-- within signed 32 bits", and has these labels and n elements pending at its end
+pub record Divides (s : List ℕ) (ls : List FramedLabel) (n : ℕ) : Type 0 where
   pub units : List EplUnit
   pub division : Division epl s units
   -- every unit's numbers fit at the reference that stands there
   pub range : InRange origin units
   pub found : labelsBy frameOf origin [] units ≡ ls
+  -- "elements pending there are no label, and their count is the division's"
+  pub pending : pendingBy 0 units ≡ n
 
 -- demand 1, refusals: a refused call leaves the state and every lent buffer as they came, and has a number of 01. (That
 -- memory is touched only inside its ends and that every call returns is what `Proved` says of every call; no entry
@@ -100,7 +101,10 @@ pub record Demand1 (library : Library) : Type 0 where
   pub inside : (s : List ℕ) (w : WalkState) → length s ≤ longest → (Outside s w → ⊥)
       → (k : Refusal) (p : ℕ) (w′ : WalkState) → library .step s w ≡ Refused w′ k p
       → ((1 ≤ numberOf k) × (numberOf k ≤ 13)) ⊎ (numberOf k ≡ 19)
-  -- "then the end is answered, again and again", with the same state
+  -- "The end prints nothing", from any state: it is answered at the end of the string, and what was pending is pending
+  pub end-keeps : (s : List ℕ) (w w′ : WalkState) → library .step s w ≡ End w′
+      → (w′ .place ≡ length s) × (w′ .pending ≡ w .pending)
+  -- ".. and is answered again and again", with the same state
   pub ended-again : (s : List ℕ) (w w′ : WalkState) → library .step s w ≡ End w′ → library .step s w′ ≡ End w′
   -- the data that a step answers lies within the input, so that a host which reads it stays inside what it lent
   pub data-inside : (s : List ℕ) (w w′ : WalkState) (e : LabelElement) → library .step s w ≡ Element w′ e
@@ -154,8 +158,8 @@ pub record Demand2 : Type 0 where
   pub starred : Holds starred.table
   pub distinct : Holds distinct.table
 
--- the normalised text of a string that divides and has these labels
-pub record Normalising (library : Library) (s : List ℕ) (ls : List FramedLabel) : Type 0 where
+-- the normalised text of a string that divides and has these labels and n elements pending at its end
+pub record Normalising (library : Library) (s : List ℕ) (ls : List FramedLabel) (n : ℕ) : Type 0 where
   -- "the normaliser writes it where the buffer has room, and 15 gives its length where not"
   pub text : List ℕ
   pub gives : (l : List ℕ) → Gives text l (library .normalise s l)
@@ -164,14 +168,14 @@ pub record Normalising (library : Library) (s : List ℕ) (ls : List FramedLabel
   pub becomes : (us : List EplUnit) → Division epl s us → Becomes us text
   -- "The normalised text of an accepted string of n bytes has at most n + n/6 + 1 bytes"
   pub size : length text ≤ length s + length s / 6 + 1
-  -- "if it too is within the limit it is accepted with the same labels": the steps over it reach the end, and these are
-  -- the labels answered
-  pub accepted-alike : length text ≤ longest → (xs : List Answer) × Walked (library .step text) fresh xs accepted
+  -- "if it too is within the limit it is accepted with the same labels and the same count pending": the steps over it
+  -- reach the end with this count, and these are the labels answered
+  pub accepted-alike : length text ≤ longest → (xs : List Answer) × Walked (library .step text) fresh xs (accepted n)
       × (answered text [] xs ≡ ls)
   -- "normalising it again changes nothing"
   pub again : length text ≤ longest → (l : List ℕ) → Gives text l (library .normalise text l)
-  -- "accepted with the same labels", by its division
-  pub divides : Divides text ls
+  -- "accepted with the same labels and the same count pending", by its division
+  pub divides : Divides text ls n
   -- "its graphic blocks are the string's, byte for byte, in order and no others"
   pub same-blocks : (us vs : List EplUnit) → Division epl s us → Division epl text vs → each blocks vs ≡ each blocks us
 
@@ -179,42 +183,43 @@ pub record Normalising (library : Library) (s : List ℕ) (ls : List FramedLabel
 pub record Demand3 (library : Library) (s : List ℕ) : Type 0 where
   -- "No string divides in two ways"
   pub one-division : (us vs : List EplUnit) → Division epl s us → Division epl s vs → us ≡ vs
-  -- the steps reach an end, the end of the string or a refusal, and no other
+  -- the steps reach an end, the end of the string with a count pending or a refusal, and no other
   pub answers : List Answer
   pub final : Final
   pub reached : Walked (library .step s) fresh answers final
   pub one-walk : (ys : List Answer) (f : Final) → Walked (library .step s) fresh ys f → (ys ≡ answers) × (f ≡ final)
   -- "the steps reach the end exactly when the string divides end to end .. with every position and size within signed
   -- 32 bits"
-  pub accepted-exactly : (final ≡ accepted) ↔ ((us : List EplUnit) × Division epl s us × InRange origin us)
-  -- "It is then accepted and the labels answered are those of its division"
-  pub divides-accepted : (ls : List FramedLabel) → Divides s ls → (final ≡ accepted) × (answered s [] answers ≡ ls)
-  pub accepted-divides : final ≡ accepted → (ls : List FramedLabel) × Divides s ls
+  pub accepted-exactly : ((n : ℕ) × (final ≡ accepted n))
+      ↔ ((us : List EplUnit) × Division epl s us × InRange origin us)
+  -- "It is then accepted, and the labels answered and the count pending at the end are those of its division"
+  pub divides-accepted : (ls : List FramedLabel) (n : ℕ) → Divides s ls n
+      → (final ≡ accepted n) × (answered s [] answers ≡ ls)
+  pub accepted-divides : (n : ℕ) → final ≡ accepted n → (ls : List FramedLabel) × Divides s ls n
   -- "otherwise the steps reach a refusal"
-  pub else-refused : ((ls : List FramedLabel) → Divides s ls → ⊥) → (n : ℕ) × (p : ℕ) × (final ≡ refusal n p)
+  pub else-refused : ((ls : List FramedLabel) (n : ℕ) → Divides s ls n → ⊥) → (n : ℕ) × (p : ℕ) × (final ≡ refusal n p)
   -- of the earliest refused unit: at fault as it stands, or with a number outside 32 bits
   pub earliest : (n p : ℕ) → (final ≡ refusal n p) ↔ Earliest Beyond s 0 origin n p
   -- "Files accepted are the same" with one number for positions and sizes: `accepted-exactly` speaks of all of them.
   -- "13 and 19 together cover what 13 covered", at the same place, and every other refusal is the same
   pub covered : (n p : ℕ) → ((m : ℕ) × (final ≡ refusal m p) × (together m ≡ n)) ↔ Earliest Beyond13 s 0 origin n p
-  pub normalising : (ls : List FramedLabel) → Divides s ls → Normalising library s ls
-  -- `list` writes the listing of the division's labels, and 15 comes last; or it refuses as the walk does, whatever the
-  -- buffer
-  pub lists-division : (ls : List FramedLabel) → Divides s ls → (l : List ℕ)
-      → Gives (listingOf ls) l (library .list s l)
+  pub normalising : (ls : List FramedLabel) (n : ℕ) → Divides s ls n → Normalising library s ls n
+  -- `list` writes the listing of the division's labels, which "ends with frame fe and their count" where elements are
+  -- pending, and 15 comes last; or it refuses as the walk does, whatever the buffer
+  pub lists-division : (ls : List FramedLabel) (n : ℕ) → Divides s ls n → (l : List ℕ)
+      → Gives (listingOf ls n) l (library .list s l)
   pub lists-refusal : (n p : ℕ) → final ≡ refusal n p → (l : List ℕ) → Denies n p l (library .list s l)
 
 -- the flat answers of the static library, a : what `step` answers
 pub record Flat : Type 0 where
-  -- an answer of `laddertick_step` rebuilt to 01's frame from its fields alone: an element's, a print's, a refusal's;
-  -- and the state for the next step
-  pub frame : (s : List ℕ) (a : theory.Answer LabelPosition LabelElement Unit)
-      → frameFlat s (flatOf a) ≡ answerFrame s a
-  pub next : (a : theory.Answer LabelPosition LabelElement Unit) → stateOf (flatOf a .next) ≡ stateIn a
+  -- an answer of `laddertick_step` rebuilt to 01's frame from its fields alone: an element's, a print's, a refusal's,
+  -- the end's where elements are pending; and the state for the next step
+  pub frame : (s : List ℕ) (a : EplAnswer) → frameFlat s (flatOf a) ≡ answerFrame s a
+  pub next : (a : EplAnswer) → stateOf (flatOf a .next) ≡ stateIn a
   -- an element's kind stands in the answer and in the element
   pub kind : (e : LabelElement) (st : State LabelPosition)
       → flatOf (element e st) .element .kind ≡ flatOf (element e st) .kind
-  -- what has no frame is told by its kind
+  -- what may have no frame is told by its kind
   pub clear : (st : State LabelPosition) → flatOf (cleared st) .kind ≡ 17
   pub end : (st : State LabelPosition) → flatOf (ended st) .kind ≡ 18
 
@@ -236,7 +241,8 @@ pub record Claims (library : Library) : Type 0 where
   pub flat : Flat
   -- the listing program's buffer always has room: no listing has more than 16 bytes for each byte of its input, and 15
   -- is never printed
-  pub room : (s : List ℕ) (ls : List FramedLabel) → outcomeOf s ≡ listed ls → length (listingOf ls) ≤ 16 * length s
+  pub room : (s : List ℕ) (ls : List FramedLabel) (n : ℕ) → outcomeOf s ≡ listed ls n
+      → length (listingOf ls n) ≤ 16 * length s
   -- n + n/6 + 1 bytes have room for the normalised text of any string of n bytes, also of one that is refused
   pub normalised-room : (s : List ℕ) → length (normalised s) ≤ length s + length s / 6 + 1
   pub never-15 : (s : List ℕ) → length s ≤ 65536 → printedOf s (16 * 65536) ≡ shownOf (dueOf s)

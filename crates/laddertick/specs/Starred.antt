@@ -12,13 +12,14 @@ use Rattle.elements.specs.declared.LabelPosition.{LabelPosition}
 use Rattle.elements.specs.declared.LineColor.the-variants.{Black}
 use Rattle.whole.specs.Step.{state, element, cleared, printed, ended, refused}
 use Rattle.grammar.specs.Epl.{origin}
-use Rattle.laddertick.specs.Table.{EplAnswer, fresh, Case, case, normal, listing}
+use Rattle.walk.specs.Steps.{EplAnswer}
+use Rattle.laddertick.specs.Table.{fresh, Case, case, normal, listing}
 
 -- How the rows are written:
 
--- the end, at n, with k elements pending at the reference 0,0
+-- the end, at n, with k elements pending at the reference 0,0: "The end prints nothing"
 abbrev closes : ℕ → ℕ → List EplAnswer
-closes n k = printed k tt (state n origin 0) ∷ ended (state n origin 0) ∷ []
+closes n k = ended (state n origin k) ∷ []
 
 -- one element that reaches to the end
 abbrev alone : ℕ → LabelElement → List EplAnswer
@@ -71,8 +72,8 @@ table =
     ∷ case "R1,2\nLO1,2,3,4\nN\nLO1,2,3,4"
     (element (box (point 2 4) 3 4 3) (state 15 (point 1 2) 1) ∷ cleared (state 17 origin 0)
     ∷ alone 26 (box (point 1 2) 3 4 3))
-    -- "`P1,1` isn't a print line.": the end prints both boxes as one label, where `P1` prints the first before the
-    -- second is read
+    -- "`P1,1` isn't a print line.": both boxes are pending at the end, where `P1` prints the first before the second is
+    -- read
     ∷ case "LO1,2,3,4\nP1,1\nLO5,6,7,8\n"
     (element (box (point 1 2) 3 4 3) (state 10 origin 1) ∷ element (box (point 5 6) 7 8 7) (state 25 origin 2)
     ∷ closes 25 2)
@@ -112,4 +113,9 @@ table =
     (element (box (point 15 26) 30 4 4) (state 18 (point 10 20) 1) ∷ printed 1 tt (state 21 (point 10 20) 0)
     ∷ ended (state 21 (point 10 20) 0) ∷ [])
     ∷ listing "R10,20\nLO5,6,30,4\nP1\n" "0000000001\n020000000f0000001a0000001e000000040000000400\n"
+    -- "the listing ends with frame fe and their count, only if there are some": two boxes behind the print line
+    ∷ listing "R10,20\nLO5,6,30,4\nP1\nLO1,2,3,4\nLO5,6,7,8\n"
+    "0000000001\n020000000f0000001a0000001e000000040000000400\nfe00000002\n"
+    -- "`N` drops what is pending": none are left
+    ∷ listing "LO1,2,3,4\nN\n" ""
     ∷ []

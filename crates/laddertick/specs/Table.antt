@@ -4,23 +4,20 @@ use mathlib.Core.Path.{_≡_}
 use mathlib.Core.List.{List, [], _∷_}
 use Prim.Native.Nat.{ℕ, zero, suc}
 use Prim.Native.String.{String}
-use Rattle.elements.specs.declared.LabelElement.{LabelElement}
 use Rattle.elements.specs.declared.LabelPosition.{LabelPosition}
 use Rattle.elements.specs.Walk as walk
 use Rattle.elements.specs.Given.{text}
-use Rattle.whole.specs.Step.{State, Answer, element, cleared, printed, ended, refused, step}
+use Rattle.whole.specs.Step.{State, element, cleared, printed, ended, refused, step}
 use Rattle.whole.specs.Trace.{left}
 use Rattle.text.specs.Ascii.{ascii}
 use Rattle.grammar.specs.Epl.{epl}
 use Rattle.grammar.specs.Normal.{normalised}
 use Rattle.walk.specs.Steps as steps
+use Rattle.walk.specs.Steps.{EplAnswer}
 use Rattle.frames.specs.Listing.{dueOf}
 
 abbrev pub EplState : Type 0
 EplState = State LabelPosition
-
-abbrev pub EplAnswer : Type 0
-EplAnswer = Answer LabelPosition LabelElement Unit
 
 abbrev pub fresh : EplState
 fresh = steps.stateOf walk.fresh
@@ -38,7 +35,7 @@ abbrev pub answersOf : ℕ → List ℕ → EplState → List EplAnswer
 answersOf zero s st = []
 answersOf (suc k) s st = onward (λ st′. answersOf k s st′) (step epl s st)
 
--- all answers to an input: `left` falls at each step
+-- all answers to an input: `left` falls at each but the last
 abbrev pub answers : List ℕ → List EplAnswer
 answers s = answersOf (suc (left s fresh)) s fresh
 

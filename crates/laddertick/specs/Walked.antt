@@ -21,7 +21,7 @@ abbrev pub next : Answer → Next
 next (Element w e) = on-from w
 next (Clear w) = on-from w
 next (Print w p) = on-from w
-next (End w) = over accepted
+next (End w) = over (accepted (w .pending))
 next (Refused w k p) = over (refusal (numberOf k) p)
 
 -- from a state, these answers and then this end, each step given the state that the last one returned

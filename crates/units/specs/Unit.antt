@@ -3,11 +3,11 @@ use Rattle.elements.specs.declared.LabelElement.{LabelElement}
 use Rattle.elements.specs.declared.LabelPosition.{LabelPosition}
 use Rattle.elements.specs.Refusals.{numberOf}
 use Rattle.whole.specs.Reading as theory
-use Rattle.grammar.specs.Epl.{origin}
+use Rattle.grammar.specs.Epl.{origin, EplPrint}
 use Rattle.units.specs.declared.unit.Reading.{Reading}
 use Rattle.units.specs.declared.unit.Reading.the-variants as unit
 
-abbrev pub unitOf : Reading → theory.Reading LabelPosition LabelElement Unit
+abbrev pub unitOf : Reading → theory.Reading LabelPosition LabelElement EplPrint
 unitOf unit.End = theory.nothing
 unitOf (unit.Fault k) = theory.fault (numberOf k)
 unitOf (unit.Passed size r) = theory.passes size r

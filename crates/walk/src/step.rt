@@ -1,6 +1,6 @@
 // The step that a host calls. Nothing is asked of the state that it hands in.
 ghost use mathlib.Core.Path.{_≡_};
-ghost use Rattle.whole.specs.Step.{step, printing, ended, state};
+ghost use Rattle.whole.specs.Step.{step};
 ghost use Rattle.grammar.specs.Epl.{epl};
 ghost use Rattle.walk.specs.Steps.{stateOf, answerOf};
 use crate::answer::Answer;
@@ -12,24 +12,8 @@ use elements::walk_state::WalkState;
 use units::unit::Reading;
 use units::unit::read_unit;
 
-// The answer at the end of the input: what is pending is printed, then the end.
-fn at_end(at: usize, reference: LabelPosition, n: usize) -> Answer
-    ensures { λ r. ⌜ answerOf r ≡ printing epl tt (ended (state at reference 0)) at reference n ⌝ }
-{
-    let st = WalkState {
-        place: at,
-        reference,
-        pending: 0,
-    };
-    if 0 < n {
-        Answer::Print(st, Printed { count: n })
-    } else {
-        Answer::End(st)
-    }
-}
-
 // The step: an element, a clear, a print, the end, or a refusal with the state as given. What answers nothing is passed
-// within it.
+// within it. The end prints nothing: its state has the count of what is pending.
 pub fn step(input: &[u8], st: WalkState) -> Answer
     ensures { λ r. ⌜ answerOf r ≡ step epl (now (input .entry)) (stateOf st) ⌝ }
 {
@@ -48,7 +32,12 @@ pub fn step(input: &[u8], st: WalkState) -> Answer
     loop {
         match read_unit(&input[at..], at, reference) {
             Reading::End => {
-                return at_end(at, reference, n);
+                let end = WalkState {
+                    place: at,
+                    reference,
+                    pending: n,
+                };
+                return Answer::End(end);
             }
             Reading::Fault(k) => {
                 return Answer::Refused(st, k, at);

@@ -1,47 +1,38 @@
 -- Normalised text: it divides, with the same labels and blocks, and normalising it again changes nothing. Assumes
 -- nothing.
 use mathlib.Core.Path.{_≡_, refl, sym, ap, subst, _∙_}
-use mathlib.Core.List.{List, [], _∷_, _++_, append-assoc}
+use mathlib.Core.List.{List, [], _∷_, _++_}
 use Prim.Native.Nat.{ℕ, _+_, _/_, _≤_}
 use native.Mathlib.Omega.{arith}
 use lib.ListN.{length, length-append}
-use Rattle.whole.specs.Normal.{each, Solid, none-left, and-then, Grows, no-longer, by-block, by-last, Normalises, Normal}
+use Rattle.whole.specs.Normal.{each, Solid, none-left, Grows, no-longer, by-block, by-last, Normalises, Normal}
 use Rattle.whole.specs.Language.{Language}
 use Rattle.whole.specs.Division.{Division, done, more}
-use Rattle.whole.specs.Labels.{closed, andThen, effect, run}
-
-each-append : {A B : Type 0} (f : A → List B) (xs ys : List A) → each f (xs ++ ys) ≡ each f xs ++ each f ys
-each-append f [] ys = refl
-each-append f (x ∷ xs) ys = ap (λ (t : List _). f x ++ t) (each-append f xs ys) ∙ sym (append-assoc (f x) (each f xs) (each f ys))
-
--- what follows a unit changes its run only through its own
-pub follow : (L : Language) (F : Type 0) (frame : List ℕ → L .E → F) (u : L .U) (us vs : List (L .U)) (r : L .R) (p : List F) → ((r′ : L .R) (p′ : List F) → run L F frame r′ p′ us ≡ run L F frame r′ p′ vs) → run L F frame r p (u ∷ us) ≡ run L F frame r p (u ∷ vs)
-follow L F frame u us vs r p h = λ i. andThen (effect L F frame r p u (L .act r u)) (λ r′ p′. h r′ p′ i)
+use Rattle.whole.specs.Labels.{closed, run}
+use Rattle.whole.proofs.RunLaws.{follow}
+use Rattle.whole.proofs.SolidLaws.{each-append, solid-append, solid-divides}
 
 module _ (L : Language) (F : Type 0) (frame : List ℕ → L .E → F) (normalised : List ℕ → List ℕ) (blocks : L .U → List (List ℕ)) (normal : L .U → List (L .U)) (law : Normalises L F frame normalised blocks normal) where
-  open Language L using (U, R, bytes, closing)
+  open Language L using (U, R, bytes)
 
   -- the normaliser writes the units' normal forms, one after the other
-  by-units : {s : List ℕ} {us : List U} → Division L s us → normalised s ≡ each bytes (each normal us)
+  pub by-units : {s : List ℕ} {us : List U} → Division L s us → normalised s ≡ each bytes (each normal us)
   by-units done = law .at-end
   by-units (more {u} {us} {s} {rest} e st d) =
       ap normalised e ∙ law .at-unit u rest st ∙ ap (λ (x : List ℕ). each bytes (normal u) ++ x) (by-units d) ∙ sym (each-append bytes (normal u) (each normal us))
 
-  in-front : (us vs : List U) (t : List ℕ) → Solid L us → Division L t vs → Division L (each bytes us ++ t) (us ++ vs)
-  in-front [] vs t none-left d = d
-  in-front (u ∷ us) vs t (and-then st q) d = more (append-assoc (bytes u) (each bytes us) t) (st (each bytes us ++ t)) (in-front us vs t q d)
+  pub solid-all : {s : List ℕ} {us : List U} → Division L s us → Solid L (each normal us)
+  solid-all done = none-left
+  solid-all (more {u} {us} {s} {rest} e st d) = solid-append L (law .solid u rest st) (solid-all d)
 
-  normal-divides : {s : List ℕ} {us : List U} → Division L s us → Division L (each bytes (each normal us)) (each normal us)
-  normal-divides done = done
-  normal-divides (more {u} {us} {s} {rest} e st d) =
-      subst (λ (x : List ℕ). Division L x (normal u ++ each normal us)) (sym (each-append bytes (normal u) (each normal us)))
-      (in-front (normal u) (each normal us) (each bytes (each normal us)) (law .solid u rest st) (normal-divides d))
+  pub normal-divides : {s : List ℕ} {us : List U} → Division L s us → Division L (normalised s) (each normal us)
+  normal-divides {s} {us} d = subst (λ (x : List ℕ). Division L x (each normal us)) (sym (by-units d)) (solid-divides L (solid-all d))
 
-  run-same : (us : List U) (r : R) (p : List F) → run L F frame r p (each normal us) ≡ run L F frame r p us
+  pub run-same : (us : List U) (r : R) (p : List F) → run L F frame r p (each normal us) ≡ run L F frame r p us
   run-same [] r p = refl
   run-same (u ∷ us) r p = law .same-run u (each normal us) r p ∙ follow L F frame u (each normal us) us r p (λ r′ p′. run-same us r′ p′)
 
-  blocks-same : (us : List U) → each blocks (each normal us) ≡ each blocks us
+  pub blocks-same : (us : List U) → each blocks (each normal us) ≡ each blocks us
   blocks-same [] = refl
   blocks-same (u ∷ us) = each-append blocks (normal u) (each normal us) ∙ ap (λ (x : List (List ℕ)). x ++ each blocks (each normal us)) (law .same-blocks u) ∙ ap (λ (x : List (List ℕ)). blocks u ++ x) (blocks-same us)
 
@@ -50,7 +41,7 @@ module _ (L : Language) (F : Type 0) (frame : List ℕ → L .E → F) (normalis
   settled-all (u ∷ us) = each-append normal (normal u) (each normal us) ∙ ap (λ (x : List U). x ++ each normal (each normal us)) (law .settled u) ∙ ap (λ (x : List U). normal u ++ x) (settled-all us)
 
   again : {s : List ℕ} {us : List U} → Division L s us → normalised (normalised s) ≡ normalised s
-  again {s} {us} d = ap normalised (by-units d) ∙ by-units (normal-divides d) ∙ ap (each bytes) (settled-all us) ∙ sym (by-units d)
+  again {s} {us} d = by-units (normal-divides d) ∙ ap (each bytes) (settled-all us) ∙ sym (by-units d)
 
   -- the normalised text of a divided string of n bytes has at most n + n / 6 + 1 bytes
   size : {s : List ℕ} {us : List U} → Division L s us → length (normalised s) ≤ length s + length s / 6 + 1
@@ -71,8 +62,8 @@ module _ (L : Language) (F : Type 0) (frame : List ℕ → L .E → F) (normalis
   pub normal-text : (r : R) {s : List ℕ} {us : List U} → Division L s us → Normal L F frame normalised blocks r s us
   normal-text r {s} {us} d = record {
     vs = each normal us;
-    division = subst (λ (x : List ℕ). Division L x (each normal us)) (sym (by-units d)) (normal-divides d);
-    same-labels = ap (closed closing) (run-same us r []);
+    division = normal-divides d;
+    same-labels = ap closed (run-same us r []);
     same-blocks = blocks-same us;
     again = again d;
     size = size d;

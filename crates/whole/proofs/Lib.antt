@@ -1,7 +1,11 @@
 pub mod DivisionLaws
+pub mod RunLaws
+pub mod SolidLaws
 pub mod StepLaws
 pub mod Whole
 pub mod TurnLaws
 pub mod TraceLaws
-pub mod EndLaws
+pub mod RefusalLaws
+pub mod OutcomeLaws
 pub mod Again
+pub mod Cases

@@ -14,21 +14,22 @@ use Rattle.whole.specs.Labels.{Label}
 use Rattle.elements.specs.Given.{longest}
 use Rattle.whole.specs.Step.{State, state, Answer, element, cleared, printed, ended, refused, handing, printing, onAct, onFirst, answerBy, answer, step}
 use Rattle.whole.specs.Reach.{Final, Then, on-from, over, then, Reach, stop, go-on, answered}
+use Rattle.whole.proofs.StepLaws.{step-first}
 use Rattle.whole.specs.Trace.{Trace, stops, refuses, yields, clears, prints, final, ending, Within, Goes, left, onAnswer, steps, trace, labelsIn, lead, after, outcome}
 
 -- the answer of a step from the place `at` with n pending, `end` being the end of the input, moves on
-abbrev Moves : {R E P : Type 0} → ℕ → ℕ → ℕ → Answer R E P → Type 0
+abbrev pub Moves : {R E P : Type 0} → ℕ → ℕ → ℕ → Answer R E P → Type 0
 Moves at end n (element e st) = (at < st .place) × (st .place ≤ end) × (st .pending ≡ suc n)
 Moves at end n (cleared st) = (at < st .place) × (st .place ≤ end) × (st .pending ≡ 0)
-Moves at end n (printed m q st) = (at ≤ st .place) × (st .place ≤ end) × (st .pending ≡ 0) × (m ≡ n) × (0 < m)
-Moves at end n (ended st) = Unit
+Moves at end n (printed m q st) = (at < st .place) × (st .place ≤ end) × (st .pending ≡ 0) × (m ≡ n) × (0 < m)
+Moves at end n (ended st) = (st .place ≡ end) × (st .pending ≡ n)
 Moves at end n (refused m p st) = Unit
 
-weaken : {R E P : Type 0} (a : Answer R E P) (at at′ end end′ n : ℕ) → at ≤ at′ → end′ ≤ end → Moves at′ end′ n a → Moves at end n a
+weaken : {R E P : Type 0} (a : Answer R E P) (at at′ end end′ n : ℕ) → at ≤ at′ → end′ ≡ end → Moves at′ end′ n a → Moves at end n a
 weaken (element e st) at at′ end end′ n h k m = (omega arith, omega arith, m .2)
 weaken (cleared st) at at′ end end′ n h k m = (omega arith, omega arith, m .2)
 weaken (printed j q st) at at′ end end′ n h k m = (omega arith, omega arith, m .2, m .3, m .4)
-weaken (ended st) at at′ end end′ n h k m = m
+weaken (ended st) at at′ end end′ n h k m = (m .0 ∙ k, m .1)
 weaken (refused j p st) at at′ end end′ n h k m = m
 
 goes-handed : {R E P : Type 0} (s : List ℕ) (st : State R) (a : Answer R E P) → Within s st → Moves (st .place) (length s) (st .pending) a → Goes s st (handing st a)
@@ -36,13 +37,21 @@ unfolding handing
 goes-handed s st (element e st′) w m = (w, m .0, m .1, m .2)
 goes-handed s st (cleared st′) w m = (w, m .0, m .1, m .2)
 goes-handed s st (printed n q st′) w m = (w, m .0, m .1, m .2, m .3, m .4)
-goes-handed s st (ended st′) w m = w
+goes-handed s st (ended st′) w m = (w, m .0, m .1)
 goes-handed s st (refused n p st′) w m = tt
 
-module _ (L : Language) (reads : Reads L) where
-  open Language L using (U, R, E, P, bytes, first, act, shifted, closing)
+-- the elements that a trace begins with do not change its end
+pub final-after : {E P : Type 0} (t : Trace E P) → final (after t) ≡ final t
+final-after (stops n) = refl
+final-after (refuses n k) = refl
+final-after (yields e t) = final-after t
+final-after (clears t) = refl
+final-after (prints n q t) = refl
 
-  moves-print : (q : P) (a : Answer R E P) (at next end : ℕ) (r : R) (n : ℕ) → at ≤ next → next ≤ end → Moves at end n a → Moves at end n (printing L q a next r n)
+module _ (L : Language) (reads : Reads L) where
+  open Language L using (U, R, E, P, bytes, first, act, shifted)
+
+  moves-print : (q : P) (a : Answer R E P) (at next end : ℕ) (r : R) (n : ℕ) → at < next → next ≤ end → Moves at end n a → Moves at end n (printing L q a next r n)
   moves-print q a at next end r zero h k m = m
   moves-print q a at next end r (suc n) h k m = (h, k, refl, refl, omega arith)
 
@@ -60,7 +69,7 @@ module _ (L : Language) (reads : Reads L) where
     where
       go : ((rest′ : List ℕ) (at′ : ℕ) (r′ : R) → Moves at′ (at′ + length rest′) n (answerBy L k rest′ at′ r′ n))
           → (o : First U) → first rest ≡ o → Moves at (at + length rest) n (onFirst L (λ rest′ at′ r′. answerBy L k rest′ at′ r′ n) o at r n)
-      go again none e = moves-print closing (ended (state at r 0)) at at (at + length rest) r n (omega arith) (omega arith) tt
+      go again none e = (omega (arith, ap length (reads .empty rest e)), refl)
       go again (bad j) e = tt
       go again (unit u rest′) e =
           let w = reads .sound rest u rest′ e in
@@ -68,7 +77,7 @@ module _ (L : Language) (reads : Reads L) where
           moves-act (λ at′ r′. answerBy L k rest′ at′ r′ n) (act r u) u at (at + length rest) r n (w .2) (omega arith)
           (λ at′ r′ q. weaken (answerBy L k rest′ at′ r′ n) at at′ (at + length rest) (at′ + length rest′) n (omega arith) (omega arith) (again rest′ at′ r′))
 
-  moves-from : (s : List ℕ) (st : State R) → st .place ≤ length s → Moves (st .place) (length s) (st .pending) (answer L (drop (st .place) s) (st .place) (st .ref) (st .pending))
+  pub moves-from : (s : List ℕ) (st : State R) → st .place ≤ length s → Moves (st .place) (length s) (st .pending) (answer L (drop (st .place) s) (st .place) (st .ref) (st .pending))
   unfolding answer
   moves-from s st h =
       let t = drop (st .place) s in
@@ -111,6 +120,15 @@ module _ (L : Language) (reads : Reads L) where
 
   pub goes-by : (s : List ℕ) (st : State R) (a : Answer R E P) → a ≡ step L s st → Goes s st a
   goes-by s st a e = subst (λ (x : Answer R E P). Goes s st x) (sym e) (goes-step s st)
+
+  -- "The end prints nothing, and is answered again and again", with the same state
+  pub ended-again : (s : List ℕ) (st st′ : State R) → step L s st ≡ ended st′ → step L s st′ ≡ ended st′
+  unfolding handing
+  ended-again s st st′ e =
+      let g = goes-by s st (ended st′) (sym e) in
+      let w = g .0 in
+      let c : st′ ≡ state (length s) (st′ .ref) (st′ .pending) = ap (λ (x : ℕ). state x (st′ .ref) (st′ .pending)) (g .1) in
+      ap (step L s) c ∙ step-first L reads s (w .short) s [] (st′ .ref) (st′ .pending) none (record { whole = sym (append-nil s); few = omega (arith, g .2) }) (reads .at-end) ∙ ap ended (sym c)
 
   -- ---- a walk that reaches an end is the trace
   over≢on : {f : Final} {st : State R} → _≡_ {A = Then R} (over f) (on-from st) → ⊥
@@ -161,7 +179,7 @@ module _ (L : Language) (reads : Reads L) where
 
     -- ---- the elements that a trace begins with, and what follows them
     pub labels-after : (s : List ℕ) (p : List F) (t : Trace E P) → labelsIn L F frame s p t ≡ labelsIn L F frame s (p ++ lead L F frame s t) (after t)
-    labels-after s p stops = refl
+    labels-after s p (stops n) = refl
     labels-after s p (refuses n k) = refl
     labels-after s p (yields e t) = labels-after s (p ++ (frame s e ∷ [])) t ∙ ap (λ (q : List F). labelsIn L F frame s q (after t)) (append-assoc p (frame s e ∷ []) (lead L F frame s t))
     labels-after s p (clears t) = refl
@@ -200,7 +218,7 @@ module _ (L : Language) (reads : Reads L) where
     paid-answer (suc k) rest at r n = go (λ rest′ at′ r′. paid-answer k rest′ at′ r′ n) (first rest)
       where
         go : ((rest′ : List ℕ) (at′ : ℕ) (r′ : R) → Paid at′ (answerBy L k rest′ at′ r′ n)) → (o : First U) → Paid at (onFirst L (λ rest′ at′ r′. answerBy L k rest′ at′ r′ n) o at r n)
-        go again none = paid-print closing (ended (state at r 0)) at at r n tt
+        go again none = tt
         go again (bad j) = tt
         go again (unit u rest′) =
             paid-act (λ at′ r′. answerBy L k rest′ at′ r′ n) (act r u) u at r n refl

@@ -15,12 +15,12 @@ use Rattle.whole.specs.Reading.{Reading, nothing, fault, passes, clears-
 use Rattle.whole.proofs.StepLaws.{answer-first}
 
 module _ (L : Language) where
-  open Language L using (U, R, E, P, bytes, closing)
+  open Language L using (U, R, E, P, bytes)
 
   -- what the loop makes of a reading at its place, g being the state that was given: an answer, or the walk from what
   -- follows
   abbrev pub onReading : State R → List ℕ → ℕ → R → ℕ → Reading R E P → Answer R E P
-  onReading g rest at r n nothing = printing L closing (ended (state at r 0)) at r n
+  onReading g rest at r n nothing = ended (state at r n)
   onReading g rest at r n (fault k) = refused k at g
   onReading g rest at r n (passes size v) = handing g (answer L (drop size rest) (at + size) v n)
   onReading g rest at r n (clears-to size v) = cleared (state (at + size) v 0)
@@ -31,11 +31,6 @@ module _ (L : Language) where
   unfolding handing
   handing-printing g q a at r zero = refl
   handing-printing g q a at r (suc n) = refl
-
-  handing-end : (g : State R) (at : ℕ) (r : R) (n : ℕ) → handing g (printing L closing (ended (state at r 0)) at r n) ≡ printing L closing (ended (state at r 0)) at r n
-  unfolding handing
-  handing-end g at r zero = refl
-  handing-end g at r (suc n) = refl
 
   turn-act : (g : State R) (rest rest′ : List ℕ) (at : ℕ) (r : R) (n : ℕ) (u : U) (a : Act R E P) → drop (length (bytes u)) rest ≡ rest′
       → handing g (onAct L (λ at′ r′. answer L rest′ at′ r′ n) a u at r n) ≡ onReading g rest at r n (moved L at (did (length (bytes u)) a))
@@ -72,7 +67,7 @@ module _ (L : Language) (reads : Reads L) where
   turn g rest at r n = ap (handing g) (answer-first L reads rest at r n) ∙ go (first rest) refl
     where
       go : (o : First U) → first rest ≡ o → handing g (onFirst L (λ rest′ at′ r′. answer L rest′ at′ r′ n) o at r n) ≡ onReading L g rest at r n (moved L at (reading L r o))
-      go none e = handing-end L g at r n
+      go none e = refl
       go (bad k) e = refl
       go (unit u rest′) e =
           let w = reads .sound rest u rest′ e in
@@ -90,14 +85,14 @@ module _ (L : Language) (reads : Reads L) where
 
   -- ---- as a loop has them: q is the reading of what stands from at
   module _ (s : List ℕ) (at : ℕ) (r : R) (q : Reading R E P) (e : q ≡ moved L at (readingOf L (take (length s - at) (drop at s)) r)) where
-    here : q ≡ moved L at (readingOf L (drop at s) r)
-    here = e ∙ ap (λ (t : List ℕ). moved L at (readingOf L t r)) (take-all (length s - at) (drop at s) (omega (arith, length-drop at s)))
+    pub reading-here : q ≡ moved L at (readingOf L (drop at s) r)
+    reading-here = e ∙ ap (λ (t : List ℕ). moved L at (readingOf L t r)) (take-all (length s - at) (drop at s) (omega (arith, length-drop at s)))
 
     pub turn-at : (g : State R) (n : ℕ) → handing g (answer L (drop at s) at r n) ≡ onReading L g (drop at s) at r n q
-    turn-at g n = turn g (drop at s) at r n ∙ ap (onReading L g (drop at s) at r n) (sym here)
+    turn-at g n = turn g (drop at s) at r n ∙ ap (onReading L g (drop at s) at r n) (sym reading-here)
 
     pub fits-at : Fits L (length s - at) q
-    fits-at = subst (λ (z : Reading R E P). Fits L (length s - at) z) (sym here) (subst (λ (m : ℕ). Fits L m (moved L at (readingOf L (drop at s) r))) (length-drop at s) (fits (drop at s) at r))
+    fits-at = subst (λ (z : Reading R E P). Fits L (length s - at) z) (sym reading-here) (subst (λ (m : ℕ). Fits L m (moved L at (readingOf L (drop at s) r))) (length-drop at s) (fits (drop at s) at r))
 
 module _ (L : Language) where
   open Language L using (R, E, P)

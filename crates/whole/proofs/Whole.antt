@@ -2,7 +2,7 @@
 -- otherwise it reaches a refusal. One law, `over-unit`, says how a walk goes on over one unit; the rest is induction.
 -- Assumes nothing.
 use mathlib.Core.Path.{_≡_, refl, sym, ap, subst, _∙_}
-use mathlib.Core.List.{List, [], _∷_, _++_, append-assoc}
+use mathlib.Core.List.{List, [], _∷_, _++_}
 use mathlib.Core.Logic.{_⊎_, inl, inr}
 use Prim.Native.Nat.{ℕ, zero, suc, _+_, _≤_, _<_}
 use native.Mathlib.Omega.{arith}
@@ -10,15 +10,16 @@ use lib.ListN.{length, length-append}
 use Rattle.whole.specs.Claims.{Local, Walks}
 use Rattle.whole.specs.Language.{First, none, bad, unit, Act, keep, clear, yield, print, outside, Language}
 use Rattle.whole.specs.Division.{Division, done, more, Reads}
-use Rattle.whole.specs.Labels.{Label, Labels, labels, out, flush, Run, goes, leaves, before, andThen, closed, effect, run, labelsOf, Fails, faulty, beyond, later}
+use Rattle.whole.specs.Labels.{Label, labels, flush, Run, goes, leaves, before, andThen, closed, effect, run, Divides, Fails, faulty, beyond, later}
 use Rattle.elements.specs.Given.{longest}
-use Rattle.whole.specs.Step.{state, Answer, ended, printing, answer, handing, step}
+use Rattle.whole.specs.Step.{state, Answer, answer, handing, step}
 use Rattle.whole.specs.Reach.{Final, accepted, refusal, on-from, over, then, Reach, stop, go-on, answered}
 use Rattle.whole.proofs.DivisionLaws.{unique}
+use Rattle.whole.proofs.RunLaws.{leaves≢goes, goes-inj, before-goes, closed-goes}
 use Rattle.whole.proofs.StepLaws.{At, one-walk, reach-as, nonempty, step-at, further, step-first, step-act}
 
 module _ (L : Language) (reads : Reads L) (F : Type 0) (frame : List ℕ → L .E → F) (local : Local L F frame) (s : List ℕ) (short : length s ≤ longest) where
-  open Language L using (U, R, E, P, bytes, first, act, shifted, closing, Stands)
+  open Language L using (U, R, E, P, bytes, first, act, shifted, Stands)
 
   -- a walk that goes on over a unit: first the labels ls, then those of the walk from after the unit
   record Joined (pre : List ℕ) (r : R) (p : List F) (ls : List (Label F P)) (p′ : List F) (xs : List (Answer R E P)) (f : Final) : Type 0 where
@@ -67,39 +68,21 @@ module _ (L : Language) (reads : Reads L) (F : Type 0) (frame : List ℕ → L .
     over-unit p (outside k) w h = ap then (step-act L reads s short pre u rest r (length p) (outside k) w st h)
 
   -- ---- a divided string in range is accepted
-  goes-inj : {x y : List (Label F P)} {r r′ : R} {p p′ : List F} → _≡_ {A = Run R F P} (goes x r p) (goes y r′ p′) → (x ≡ y) × (p ≡ p′)
-  goes-inj e = (cc, cc)
-
-  leaves≢goes : {n : ℕ} {x : List (Label F P)} {r : R} {p : List F} → _≡_ {A = Run R F P} (leaves n) (goes x r p) → ⊥
-  leaves≢goes e = let z : _≡_ {A = ℕ} 0 1 = cc in omega arith
-
-  before-goes : (ls : List (Label F P)) (x : Run R F P) (ms : List (Label F P)) (r : R) (p : List F) → before ls x ≡ goes ms r p → (ks : List (Label F P)) × (x ≡ goes ks r p) × (ls ++ ks ≡ ms)
-  before-goes ls (goes ks r′ p′) ms r p e = (ks, (let k : r′ ≡ r = cc in let j : p′ ≡ p = cc in cc), goes-inj e .0)
-  before-goes ls (leaves n) ms r p e = absurd (leaves≢goes e)
-
-  -- a walk to the end from a place of s that answers these labels, p being pending
-  pub record Walked (pre : List ℕ) (r : R) (p : List F) (ls : List (Label F P)) : Type 0 where
+  -- a walk to the end from a place of s, p being pending: it answers these labels, and leaves so many pending
+  pub record Walked (pre : List ℕ) (r : R) (p : List F) (ls : List (Label F P)) (n : ℕ) : Type 0 where
     pub xs : List (Answer R E P)
-    pub reach : Reach L s (state (length pre) r (length p)) xs accepted
+    pub reach : Reach L s (state (length pre) r (length p)) xs (accepted n)
     pub same : answered L F frame s p xs ≡ ls
 
-  step-end : (pre : List ℕ) (r : R) (n : ℕ) → At s pre [] n → step L s (state (length pre) r n) ≡ handing (state (length pre) r n) (printing L closing (ended (state (length pre) r 0)) (length pre) r n)
-  step-end pre r n w = step-first L reads s short pre [] r n none w (reads .at-end)
+  at-end : (pre : List ℕ) (r : R) (p : List F) → At s pre [] (length p) → Walked pre r p [] (length p)
+  unfolding handing
+  at-end pre r p w = record { xs = []; reach = stop (ap then (step-first L reads s short pre [] r (length p) none w (reads .at-end))); same = refl }
 
-  at-end : (pre : List ℕ) (r : R) (p : List F) → At s pre [] (length p) → Walked pre r p (flush closing p)
-  unfolding handing flush
-  at-end pre r [] w = record { xs = []; reach = stop (ap then (step-end pre r 0 w)); same = refl }
-  at-end pre r (f ∷ p) w = record {
-    xs = _;
-    reach = go-on (step-end pre r (suc (length p)) w) refl (stop (ap then (step-end pre r 0 (record { whole = w .whole; few = omega arith }))));
-    same = refl;
-  }
-
-  walks : {rest : List ℕ} {us : List U} → Division L rest us → (pre : List ℕ) (r : R) (p : List F) (ls : List (Label F P)) (r′ : R) (p′ : List F) → At s pre rest (length p)
-      → run L F frame r p us ≡ goes ls r′ p′ → Walked pre r p (ls ++ flush closing p′)
+  pub walks : {rest : List ℕ} {us : List U} → Division L rest us → (pre : List ℕ) (r : R) (p : List F) (ls : List (Label F P)) (r′ : R) (p′ : List F) → At s pre rest (length p)
+      → run L F frame r p us ≡ goes ls r′ p′ → Walked pre r p ls (length p′)
   walks done pre r p ls r′ p′ w q =
       let i = goes-inj q in
-      subst (Walked pre r p) (ap (flush closing) (i .1) ∙ ap (λ (x : List (Label F P)). x ++ flush closing p′) (i .0)) (at-end pre r p w)
+      subst (λ (x : List (Label F P)). Walked pre r p x (length p′)) (i .0) (subst (λ (x : List F). Walked pre r p [] (length x)) (i .2) (at-end pre r p w))
   walks (more {u} {us} {s = t} {rest} e st d) pre r p ls r′ p′ w q =
       go (effect L F frame r p u (act r u)) (over-unit pre u rest r st p (act r u) w′ refl) (λ r″ p″ ms b. walks d (pre ++ bytes u) r″ p″ ms r′ p′ (further L reads s short pre u rest (length p) (length p″) w′ b)) q
     where
@@ -107,14 +90,14 @@ module _ (L : Language) (reads : Reads L) (F : Type 0) (frame : List ℕ → L .
       w′ = record { whole = w .whole ∙ ap (λ (x : List ℕ). pre ++ x) e; few = w .few }
 
       go : (ef : Run R F P) → Over pre u r p ef
-          → ((r″ : R) (p″ : List F) (ms : List (Label F P)) → length p″ ≤ length (pre ++ bytes u) → run L F frame r″ p″ us ≡ goes ms r′ p′ → Walked (pre ++ bytes u) r″ p″ (ms ++ flush closing p′))
-          → andThen ef (λ r″ p″. run L F frame r″ p″ us) ≡ goes ls r′ p′ → Walked pre r p (ls ++ flush closing p′)
+          → ((r″ : R) (p″ : List F) (ms : List (Label F P)) → length p″ ≤ length (pre ++ bytes u) → run L F frame r″ p″ us ≡ goes ms r′ p′ → Walked (pre ++ bytes u) r″ p″ ms (length p′))
+          → andThen ef (λ r″ p″. run L F frame r″ p″ us) ≡ goes ls r′ p′ → Walked pre r p ls (length p′)
       go (leaves n) o again q = absurd (leaves≢goes q)
       go (goes ks r″ p″) o again q =
           let b = before-goes ks (run L F frame r″ p″ us) ls r′ p′ q in
           let v = again r″ p″ (b .0) (o .0) (b .1) in
-          let j = o .1 (v .xs) accepted (v .reach) in
-          record { xs = j .ys; reach = j .reach; same = j .same ∙ ap (λ (x : List (Label F P)). ks ++ x) (v .same) ∙ sym (append-assoc ks (b .0) (flush closing p′)) ∙ ap (λ (x : List (Label F P)). x ++ flush closing p′) (b .2) }
+          let j = o .1 (v .xs) (accepted (length p′)) (v .reach) in
+          record { xs = j .ys; reach = j .reach; same = j .same ∙ ap (λ (x : List (Label F P)). ks ++ x) (v .same) ∙ b .2 }
 
   -- ---- every walk ends: what is left divides and its run goes on, or a refusal is reached
   record Goes (rest : List ℕ) (r : R) (p : List F) : Type 0 where
@@ -167,22 +150,20 @@ module _ (L : Language) (reads : Reads L) (F : Type 0) (frame : List ℕ → L .
   start : At s [] s 0
   start = record { whole = refl; few = omega arith }
 
-  accepted≢refusal : (n p : ℕ) → _≡_ {A = Final} accepted (refusal n p) → ⊥
-  accepted≢refusal n p e = let z : _≡_ {A = ℕ} 0 1 = cc in omega arith
+  accepted≢refusal : {m n p : ℕ} → _≡_ {A = Final} (accepted m) (refusal n p) → ⊥
+  accepted≢refusal e = let z : _≡_ {A = ℕ} 0 1 = cc in omega arith
+
+  same-accepted : {m n : ℕ} → _≡_ {A = Final} (accepted m) (accepted n) → m ≡ n
+  same-accepted e = cc
 
   same-refusal : {m n p q : ℕ} → _≡_ {A = Final} (refusal m p) (refusal n q) → (m ≡ n) × (p ≡ q)
   same-refusal e = (cc, cc)
 
-  out≢labels : {x : List (Label F P)} → _≡_ {A = Labels F P} out (labels x) → ⊥
-  out≢labels e = let z : _≡_ {A = ℕ} 0 1 = cc in omega arith
-
   -- a division in range is walked to the end, with its labels
-  divided : {us : List U} (r : R) (ls : List (Label F P)) → Division L s us → labelsOf L F frame r [] us ≡ labels ls → Walked [] r [] ls
-  divided {us} r ls d q = by (run L F frame r [] us) refl q
-    where
-      by : (x : Run R F P) → run L F frame r [] us ≡ x → closed closing x ≡ labels ls → Walked [] r [] ls
-      by (goes ms r′ p′) e q = let k : ms ++ flush closing p′ ≡ ls = cc in subst (Walked [] r []) k (walks d [] r [] ms r′ p′ start e)
-      by (leaves n) e q = absurd (out≢labels q)
+  divided : (r : R) (ls : List (Label F P)) (n : ℕ) → Divides L F frame s r ls n → Walked [] r [] ls n
+  divided r ls n d =
+      let g = closed-goes (run L F frame r [] (d .units)) ls n (d .range) in
+      subst (Walked [] r [] ls) (g .3) (walks (d .division) [] r [] ls (g .0) (g .1) start (g .2))
 
   pub whole : (r : R) → Walks L F frame r s
   whole r = by (ends (suc (length s)) [] s r [] start (omega arith))
@@ -193,12 +174,12 @@ module _ (L : Language) (reads : Reads L) (F : Type 0) (frame : List ℕ → L .
           record {
             one-division = λ us vs d e. unique L reads refl d e;
             answers = v .xs;
-            final = accepted;
+            final = accepted (length (i .pend));
             ends = v .reach;
             one-walk = λ ys f c. one-walk L refl c (v .reach);
-            divides→accepted = λ us ls d q. (let w = divided r ls d q in (refl, ap (answered L F frame s []) (one-walk L refl (v .reach) (w .reach) .0) ∙ w .same));
-            accepted→divides = λ e. record { units = i .units; division = i .division; found = i .found ++ flush closing (i .pend); range = ap (closed closing) (i .range) };
-            refused→fails = λ n p e. absurd (accepted≢refusal _ _ e);
+            divides→accepted = λ ls n d. (let w = divided r ls n d in let o = one-walk L refl (v .reach) (w .reach) in (o .1, ap (answered L F frame s []) (o .0) ∙ w .same));
+            accepted→divides = λ n e. (i .found, record { units = i .units; division = i .division; range = ap closed (i .range) ∙ ap (labels (i .found)) (same-accepted e) });
+            refused→fails = λ n p e. absurd (accepted≢refusal e);
           }
       by (inr v) = record {
         one-division = λ us vs d e. unique L reads refl d e;
@@ -206,7 +187,7 @@ module _ (L : Language) (reads : Reads L) (F : Type 0) (frame : List ℕ → L .
         final = refusal (v .number) (v .place);
         ends = v .reach;
         one-walk = λ ys f c. one-walk L refl c (v .reach);
-        divides→accepted = λ us ls d q. let w = divided r ls d q in absurd (accepted≢refusal _ _ (one-walk L refl (w .reach) (v .reach) .1));
-        accepted→divides = λ e. absurd (accepted≢refusal _ _ (sym e));
+        divides→accepted = λ ls n d. let w = divided r ls n d in absurd (accepted≢refusal (one-walk L refl (w .reach) (v .reach) .1));
+        accepted→divides = λ n e. absurd (accepted≢refusal (sym e));
         refused→fails = λ n p e. let a = same-refusal e in subst (λ (x : ℕ). Fails L F frame s 0 r [] x p) (a .0) (subst (λ (x : ℕ). Fails L F frame s 0 r [] (v .number) x) (a .1) (v .fails));
       }

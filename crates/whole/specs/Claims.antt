@@ -6,7 +6,7 @@ use Prim.Native.Nat.{ℕ}
 use lib.ListN.{length}
 use Rattle.whole.specs.Language.{Language, yield}
 use Rattle.whole.specs.Division.{Division}
-use Rattle.whole.specs.Labels.{Label, labels, labelsOf, InRange, Fails}
+use Rattle.whole.specs.Labels.{Label, Divides, Fails}
 use Rattle.whole.specs.Step.{state, Answer}
 use Rattle.whole.specs.Reach.{Final, accepted, Reach, answered, refusal}
 
@@ -28,10 +28,10 @@ module _ (L : Language) (F : Type 0) (frame : List ℕ → L .E → F) where
     pub ends : Reach L s (state 0 r 0) answers final
     -- and nothing else
     pub one-walk : (ys : List (Answer R E P)) (f : Final) → Reach L s (state 0 r 0) ys f → (ys ≡ answers) × (f ≡ final)
-    -- where s divides in range they reach the end and answer the division's labels
-    pub divides→accepted : (us : List U) (ls : List (Label F P)) → Division L s us
-        → labelsOf L F frame r [] us ≡ labels ls → (final ≡ accepted) × (answered L F frame s [] answers ≡ ls)
+    -- where s divides in range they reach the end with the division's count pending, and answer the division's labels
+    pub divides→accepted : (ls : List (Label F P)) (n : ℕ) → Divides L F frame s r ls n
+        → (final ≡ accepted n) × (answered L F frame s [] answers ≡ ls)
     -- and only there
-    pub accepted→divides : final ≡ accepted → InRange L F frame s r []
+    pub accepted→divides : (n : ℕ) → final ≡ accepted n → (ls : List (Label F P)) × Divides L F frame s r ls n
     -- a refusal is that of the earliest refused unit
     pub refused→fails : (n p : ℕ) → final ≡ refusal n p → Fails L F frame s 0 r [] n p

@@ -1,4 +1,4 @@
--- The labels of a division (01, "For demand 3"): a run over its units, and what the end makes of what is then pending.
+-- The labels of a division (01, "For demand 3"): a run over its units, and the count of what is pending at the end.
 -- Elements are compared by their frames.
 use mathlib.Core.Path.{_≡_}
 use mathlib.Core.List.{List, [], _∷_, _++_}
@@ -31,19 +31,19 @@ abbrev pub andThen : {R F P : Type 0} → Run R F P → (R → List F → Run R 
 andThen (goes ls r p) go = before ls (go r p)
 andThen (leaves n) go = leaves n
 
--- the labels, or none for a run that leaves the range
+-- the labels and how many elements are pending at the end, or none for a run that leaves the range
 pub data Labels (F P : Type 0) : Type 0 where
-  labels : List (Label F P) → Labels F P
+  labels : List (Label F P) → ℕ → Labels F P
   out : Labels F P
 
--- "a print line or the end prints it"
-abbrev pub closed : {R F P : Type 0} → P → Run R F P → Labels F P
-closed q (goes ls r p) = labels (ls ++ flush q p)
-closed q (leaves n) = out
+-- "The end prints nothing"; "elements pending there are no label, and their count is the division's"
+abbrev pub closed : {R F P : Type 0} → Run R F P → Labels F P
+closed (goes ls r p) = labels ls (length p)
+closed (leaves n) = out
 
 -- F are frames, `frame s e` that of the element e in the string s
 module _ (L : Language) (F : Type 0) (frame : List ℕ → L .E → F) where
-  open Language L using (U, R, E, P, bytes, act, closing)
+  open Language L using (U, R, E, P, bytes, act)
 
   -- "`R` and `N` set the reference; an element that the unit yields becomes pending; `N` drops what is pending; a print
   -- line .. prints it"
@@ -60,14 +60,14 @@ module _ (L : Language) (F : Type 0) (frame : List ℕ → L .E → F) where
   run r p (u ∷ us) = andThen (effect r p u (act r u)) (λ r′ p′. run r′ p′ us)
 
   abbrev pub labelsOf : R → List F → List U → Labels F P
-  labelsOf r p us = closed closing (run r p us)
+  labelsOf r p us = closed (run r p us)
 
-  -- a division, with every position and size in range
-  pub record InRange (s : List ℕ) (r : R) (p : List F) : Type 0 where
+  -- s divides with every position and size in range, r being the fresh reference, and has these labels and n elements
+  -- pending at the end
+  pub record Divides (s : List ℕ) (r : R) (ls : List (Label F P)) (n : ℕ) : Type 0 where
     pub units : List U
     pub division : Division L s units
-    pub found : List (Label F P)
-    pub range : labelsOf r p units ≡ labels found
+    pub range : labelsOf r [] units ≡ labels ls n
 
   -- the earliest refused unit from a place on: at fault as it stands, or out of range, every unit before it being
   -- neither

@@ -19,8 +19,7 @@ pub data Act (R E P : Type 0) : Type 0 where
   outside : ℕ → Act R E P
 
 -- a language of units: references, elements and what a print says; the units' bytes, where they stand, the unit that
--- stands first, what a unit does at a reference, an element moved to a later place, and what is said of the label that
--- the end prints
+-- stands first, what a unit does at a reference, and an element moved to a later place
 pub record Language : Type 1 where
   pub U : Type 0
   pub R : Type 0
@@ -31,4 +30,3 @@ pub record Language : Type 1 where
   pub first : List ℕ → First U
   pub act : R → U → Act R E P
   pub shifted : ℕ → E → E
-  pub closing : P

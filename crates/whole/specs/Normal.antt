@@ -42,7 +42,7 @@ module _ (L : Language) (F : Type 0) (frame : List ℕ → L .E → F) where
 
     -- what then holds of a string that divides into us, r being the fresh reference
     pub record Normal (r : R) (s : List ℕ) (us : List U) : Type 0 where
-      -- its normalised text divides, with the same labels and the same blocks
+      -- its normalised text divides, with the same labels, as many elements pending at the end and the same blocks
       pub vs : List U
       pub division : Division L (normalised s) vs
       pub same-labels : labelsOf L F frame r [] vs ≡ labelsOf L F frame r [] us

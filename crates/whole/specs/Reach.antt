@@ -6,8 +6,9 @@ use Rattle.whole.specs.Language.{Language}
 use Rattle.whole.specs.Labels.{Label}
 use Rattle.whole.specs.Step.{State, Answer, element, cleared, printed, ended, refused, step}
 
+-- the end, with the count of what is pending there, or a refusal
 pub data Final : Type 0 where
-  accepted : Final
+  accepted : ℕ → Final
   refusal : ℕ → ℕ → Final
 
 -- after an answer the walk goes on from the state that it returned, or is over
@@ -19,7 +20,7 @@ abbrev pub then : {R E P : Type 0} → Answer R E P → Then R
 then (element e st) = on-from st
 then (cleared st) = on-from st
 then (printed n q st) = on-from st
-then (ended st) = over accepted
+then (ended st) = over (accepted (st .pending))
 then (refused n p st) = over (refusal n p)
 
 module _ (L : Language) where

@@ -34,9 +34,9 @@ handing g (ended st) = ended st
 handing g (refused n p st) = refused n p g
 
 module _ (L : Language) where
-  open Language L using (U, R, E, P, bytes, first, act, shifted, closing)
+  open Language L using (U, R, E, P, bytes, first, act, shifted)
 
-  -- at the end, and at a print line, what is pending is printed
+  -- at a print line what is pending is printed
   abbrev pub printing : P → Answer R E P → ℕ → R → ℕ → Answer R E P
   printing q else at r zero = else
   printing q else at r (suc n) = printed (suc n) q (state at r zero)
@@ -50,7 +50,8 @@ module _ (L : Language) where
   onAct go (outside k) u at r n = refused k at (state at r n)
 
   abbrev pub onFirst : (List ℕ → ℕ → R → Answer R E P) → First U → ℕ → R → ℕ → Answer R E P
-  onFirst go none at r n = printing closing (ended (state at r zero)) at r n
+  -- "The end prints nothing, and is answered again and again": what is pending stays pending
+  onFirst go none at r n = ended (state at r n)
   onFirst go (bad k) at r n = refused k at (state at r n)
   onFirst go (unit u rest) at r n = onAct (go rest) (act r u) u at r n
 

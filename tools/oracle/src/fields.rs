@@ -4,7 +4,7 @@
 //! that is written from the scope document and shares nothing with the library: font "1 by default", multipliers "1 by default, least value 1", wide bar
 //! "2 by default".
 
-use crate::{block_end, unit_end, Answer};
+use crate::{block_end, unit_end, Answer, Labels};
 
 /// Where they stand in a frame's line and how many numbers they are, in digits: behind kind, x, y, rotation and reverse flag; behind kind, x, y, rotation, narrow,
 /// height, line and check.
@@ -17,8 +17,8 @@ fn place(line: &str) -> Option<(usize, usize)> {
 }
 
 /// A frame has such fields.
-pub fn are_in(listing: &str) -> bool {
-    listing.lines().any(|line| place(line).is_some())
+pub fn are_in(labels: &Labels) -> bool {
+    labels.printed.lines().chain(labels.pending.lines()).any(|line| place(line).is_some())
 }
 
 /// A listing as the Rust has it.
@@ -33,7 +33,10 @@ pub fn without(listing: &str) -> String {
 /// The Rust's answer to an input with these fields in it.
 pub fn told(input: &[u8], answer: &Answer) -> Answer {
     match answer {
-        Answer::Labels(listing) if are_in(listing) => Answer::Labels(with(listing, printed(input))),
+        Answer::Labels(labels) if are_in(labels) => {
+            let (printed, pending) = elements(input);
+            Answer::Labels(Labels { printed: with(&labels.printed, printed), pending: with(&labels.pending, pending) })
+        }
         other => other.clone(),
     }
 }
@@ -63,8 +66,8 @@ enum Says {
     Nothing,
 }
 
-/// The elements of an accepted input that are printed, in order.
-fn printed(input: &[u8]) -> Vec<Vec<i32>> {
+/// The elements of an accepted input that are printed, in order, and those that are pending at its end.
+fn elements(input: &[u8]) -> (Vec<Vec<i32>>, Vec<Vec<i32>>) {
     let (mut printed, mut pending, mut place) = (Vec::new(), Vec::new(), 0);
     while place < input.len() {
         let end = unit_end(input, place);
@@ -80,8 +83,7 @@ fn printed(input: &[u8]) -> Vec<Vec<i32>> {
         }
         place = end;
     }
-    printed.append(&mut pending);
-    printed
+    (printed, pending)
 }
 
 /// 01, "Grammar", in its order.

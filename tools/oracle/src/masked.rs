@@ -3,12 +3,40 @@
 //!
 //! The colour is held to the definition: with `LO` for `LE` a box is black and with `LW` white, so where the frames of these two copies differ,
 //! they differ in the colour flag of an `LE` line, which is 2.
+//!
+//! The Rust prints at the end of the input, and here "The end prints nothing". So its last label is taken off when nothing printed it: when it is not among the
+//! labels of a copy with a line `N` behind it, which drops what is pending. The elements of that label are the ones that are pending at the end, and their
+//! number is the count of frame fe.
 
 use crate::panics::{self, Cause};
-use crate::{unit_end, Answer};
+use crate::{unit_end, Answer, Labels, LIMIT};
 
 /// What 01 answers, and why the Rust panics where it does. Never `Answer::Panic`.
 pub fn answer(input: &[u8]) -> (Answer, Option<Cause>) {
+    if input.len() > LIMIT {
+        return (Answer::Refused(14, 0), None);
+    }
+    match with_colours(input) {
+        (Answer::Labels(all), cause) if !all.printed.is_empty() => (Answer::Labels(unprinted(input, &all.printed)), cause),
+        other => other,
+    }
+}
+
+/// The labels that print lines printed, and what is pending behind them; `all` are the Rust's.
+fn unprinted(input: &[u8], all: &str) -> Labels {
+    let (Answer::Labels(dropped), _) = with_colours(&[input, b"\nN"].concat()) else {
+        unreachable!("a line N behind an accepted input is refused");
+    };
+    let last = all.strip_prefix(&*dropped.printed).expect("a line N takes off no label that a print line printed");
+    let Some((count, pending)) = last.split_once('\n') else {
+        return dropped;
+    };
+    assert_eq!(count, format!("00{:08x}", pending.lines().count()), "the end prints one label at most");
+    Labels { printed: dropped.printed, pending: pending.to_string() }
+}
+
+/// What 01 answers but for the end of the input.
+fn with_colours(input: &[u8]) -> (Answer, Option<Cause>) {
     let places = exclusive_or(input);
     if places.is_empty() {
         return panics::answer(input);
@@ -16,7 +44,10 @@ pub fn answer(input: &[u8]) -> (Answer, Option<Cause>) {
     let (black, cause) = panics::answer(&with_letter(input, &places, b'O'));
     let (white, _) = panics::answer(&with_letter(input, &places, b'W'));
     match (black, white) {
-        (Answer::Labels(black), Answer::Labels(white)) => (Answer::Labels(coloured(&black, &white)), cause),
+        (Answer::Labels(black), Answer::Labels(white)) => {
+            let printed = coloured(&black.printed, &white.printed);
+            (Answer::Labels(Labels { printed, ..black }), cause)
+        }
         (black, white) => {
             assert_eq!(black, white, "a colour changes what is refused");
             (black, cause)

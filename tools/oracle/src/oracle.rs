@@ -22,11 +22,19 @@ use std::sync::Once;
 /// The longest input; a longer one is refused 14.
 pub const LIMIT: usize = 16_777_216;
 
+/// The frames of an accepted input, without the fields that the Rust has not (`fields`): hexadecimal, one a line, each line ended by LF.
+#[derive(Clone, Debug, Default, PartialEq, Eq)]
+pub struct Labels {
+    /// Of all labels.
+    pub printed: String,
+    /// Of the elements that the end of the input finds pending. The Rust, asked as it is, has none: it prints them.
+    pub pending: String,
+}
+
 /// What the Rust makes of an input.
 #[derive(Clone, Debug, PartialEq, Eq)]
 pub enum Answer {
-    /// The frames of all labels, without the fields that the Rust has not (`fields`): hexadecimal, one a line, each line ended by LF.
-    Labels(String),
+    Labels(Labels),
     /// 01's number, and the place of the refused unit's first byte, its blanks included.
     Refused(u8, usize),
     /// A panic. 01's domain leaves these inputs out; `panics` says what 01 answers there, and `masked` what it answers to any input.
@@ -34,24 +42,30 @@ pub enum Answer {
 }
 
 impl Answer {
-    /// The answer as the listing program prints it: frames, the one frame ff, or `panic`.
+    /// The answer as the listing program prints it: frames, behind those of labels frame fe where elements are pending; the one frame ff; or `panic`.
     pub fn lines(&self) -> String {
         match self {
-            Answer::Labels(text) => text.clone(),
+            Answer::Labels(labels) if labels.pending.is_empty() => labels.printed.clone(),
+            Answer::Labels(labels) => format!("{}fe{:08x}\n", labels.printed, labels.pending.lines().count()),
             Answer::Refused(number, place) => format!("ff{number:02x}{place:08x}\n"),
             Answer::Panic => "panic\n".to_string(),
         }
     }
 }
 
-/// The listing of an input of any length.
+/// The listing of an input of any length, as the Rust has it: what is pending at the end is its last label.
 pub fn listing(input: &[u8]) -> Answer {
     if input.len() > LIMIT {
         return Answer::Refused(14, 0);
     }
+    unlimited(input)
+}
+
+/// The same of inputs over the limit too.
+fn unlimited(input: &[u8]) -> Answer {
     match quietly(|| epl::parse(input)) {
         None => Answer::Panic,
-        Some(Ok(labels)) => Answer::Labels(frames::listing(&labels)),
+        Some(Ok(labels)) => Answer::Labels(Labels { printed: frames::listing(&labels), pending: String::new() }),
         Some(Err(text)) => Answer::Refused(number(&text), refused_place(input)),
     }
 }

@@ -3,7 +3,7 @@
 //! - a MaxiCode line whose byte 6 is inside a character: mode 3, as the line with `m3` before its data gives;
 //! - anything else is a number outside 32 bits: 13 where the unit's position panics alone, as that of a line `LO` in its place, else 19.
 
-use crate::{listing, unit_end, Answer};
+use crate::{unit_end, unlimited, Answer};
 
 #[derive(Clone, Copy, Debug, PartialEq, Eq)]
 pub enum Cause {
@@ -13,15 +13,15 @@ pub enum Cause {
     Maxicode,
 }
 
-/// 01's answer to any input, and why the Rust panics where it does (the first cause in the file). Never `Answer::Panic`.
+/// 01's answer to any input, the limit of its length and the end of the input apart, and why the Rust panics where it does (the first cause in the file). Never `Answer::Panic`.
 pub fn answer(input: &[u8]) -> (Answer, Option<Cause>) {
-    let first = listing(input);
+    let first = unlimited(input);
     if first != Answer::Panic {
         return (first, None);
     }
     let (place, end) = panicking_unit(input);
     let unit = &input[place..end];
-    match listing(unit) {
+    match unlimited(unit) {
         Answer::Refused(number, _) => (Answer::Refused(number, place), Some(Cause::TypeOrSize)),
         Answer::Panic if is_2d_barcode(unit) => (as_mode_3(input, place), Some(Cause::Maxicode)),
         _ if position_panics(input, place, unit) => (Answer::Refused(13, place), Some(Cause::Position)),
@@ -41,7 +41,7 @@ fn position_panics(input: &[u8], place: usize, unit: &[u8]) -> bool {
         _ => return true,
     };
     let alone = [&input[..place], format!("LO{x},{y},1,1").as_bytes()].concat();
-    listing(&alone) == Answer::Panic
+    unlimited(&alone) == Answer::Panic
 }
 
 /// The answer with `,m3` before the first quote of the line at a place; places behind it are told without the three bytes.
@@ -67,6 +67,6 @@ fn panicking_unit(input: &[u8]) -> (usize, usize) {
     while *ends.last().unwrap() < input.len() {
         ends.push(unit_end(input, *ends.last().unwrap()));
     }
-    let calm = ends.partition_point(|&end| listing(&input[..end]) != Answer::Panic);
+    let calm = ends.partition_point(|&end| unlimited(&input[..end]) != Answer::Panic);
     (ends[calm - 1], ends[calm])
 }

@@ -9,7 +9,7 @@ use Rattle.elements.specs.declared.filled.Filled.{Filled}
 use Rattle.elements.specs.declared.filled.Filled.the-variants.{Bytes, Refused}
 use Rattle.elements.specs.Given.{needed, givenOf, bytes, text}
 use Rattle.elements.proofs.GivenLaws.{needed-denied, fills-denied, fills-short, fills-written, bytes≢refused, bytes-inj}
-use Rattle.frames.specs.Listing.{dueOf, FramedLabel, listingOf, listingDue, textFrom}
+use Rattle.frames.specs.Listing.{dueOf, FramedLabel, listingOf, listingDue, pendingAt, textFrom}
 use Rattle.element_frames.specs.Frame.{frameOf}
 use Rattle.whole.specs.Reach.{Final, accepted, refusal}
 use Rattle.whole.specs.Trace.{ending, final, labelsIn}
@@ -21,8 +21,8 @@ use Rattle.frames.proofs.listing.list.Statement.{statement}
 use Rattle.frames.proofs.listing.list.Tie as tie
 
 -- the labels that are written, where the walk lists them
-due-by : (f : Final) (ls : List FramedLabel) (n : ℕ) → bytes n ≡ needed (listingDue (ending f ls)) → listingDue (ending f ls) ≡ text (listingOf ls)
-due-by accepted ls n e = refl
+due-by : (f : Final) (ls : List FramedLabel) (n : ℕ) → bytes n ≡ needed (listingDue (ending f ls)) → listingDue (ending f ls) ≡ text (listingOf ls (pendingAt f))
+due-by (accepted m) ls n e = refl
 due-by (refusal m q) ls n e = absurd (bytes≢refused e)
 
 module _ (s : List ℕ) (n : ℕ) (e : bytes n ≡ needed (dueOf s)) where

@@ -5,29 +5,29 @@ use mathlib.Core.Path.{_≡_, sym, ap, _∙_, refl}
 use mathlib.Core.List.{List, [], _∷_, _++_}
 use Prim.Native.Nat.{ℕ, _+_, _-_, _*_, _≤_, min}
 use native.Mathlib.Omega.{arith}
-use native.Mathlib.Nat.{add-zero, zero-add, min-eq-right, min-le-left}
+use native.Mathlib.Nat.{zero-add, min-eq-right, min-le-left}
 use lib.ListN.{length, length-append}
 use Rattle.elements.specs.Walk.{fresh}
-use Rattle.walk.specs.Steps.{traceOf}
+use Rattle.walk.specs.Steps.{EplTrace, traceOf}
 use Rattle.walk.specs.declared.answer.Answer.{Answer}
 use Rattle.walk.specs.declared.answer.Answer.the-variants.{Element, Clear, Print, End, Refused}
 use Rattle.elements.specs.declared.walk_state.WalkState.{WalkState}
-use Rattle.frames.proofs.ListingLaws.{onStep, Moved, moved-by, begins, length-lines, length-label}
+use Rattle.frames.proofs.ListingLaws.{onStep, Moved, moved-by, begins, length-lines, length-label, length-pending-le}
 use Rattle.elements.specs.declared.LabelElement.{LabelElement}
 use Rattle.element_frames.specs.Frame.{frameOf}
 use Rattle.element_frames.proofs.FrameLaws.{frame-in}
 use Rattle.whole.specs.Reach.{Final, accepted, refusal}
 use Rattle.elements.specs.Given.{Given, bytes, refused, needed, longest}
-use Rattle.whole.specs.Trace.{Trace, stops, refuses, yields, clears, prints, ending, final, labelsIn}
+use Rattle.whole.specs.Trace.{stops, refuses, yields, clears, prints, ending, final, labelsIn}
 use Rattle.grammar.specs.Epl.{epl}
-use Rattle.frames.specs.Listing.{FramedLabel, linesOf, labelLines, listingOf, listingDue, dueOf}
+use Rattle.frames.specs.Listing.{FramedLabel, linesOf, labelLines, pendingLine, listingOf, listingDue, dueOf}
 use borrow.Author.Needs.{needs}
 use Rattle.frames.proofs.listing.measure.Statement.{statement}
 use Rattle.frames.proofs.listing.measure.Tie as tie
 
 -- the length, as the first pass counts it: of the labels so far, and of what is pending
-abbrev sizeFrom : List ℕ → ℕ → ℕ → Trace LabelElement Unit → Given
-sizeFrom s total pend stops = bytes total
+abbrev sizeFrom : List ℕ → ℕ → ℕ → EplTrace → Given
+sizeFrom s total pend (stops n) = bytes (total + length (pendingLine n))
 sizeFrom s total pend (refuses n k) = refused n k
 sizeFrom s total pend (yields e t) = sizeFrom s total (pend + (2 * length (frameOf s e) + 1)) t
 sizeFrom s total pend (clears t) = sizeFrom s total 0 t
@@ -49,11 +49,11 @@ frame-len-is : (s : List ℕ) (e : LabelElement) → length s ≤ longest → mi
 frame-len-is s e h = min-eq-right (omega (arith, frame-in s e))
 
 size-cons : (f : Final) (k : ℕ) (l : FramedLabel) (ls : List FramedLabel) → longer k (needed (listingDue (ending f (l ∷ ls)))) ≡ longer (k + length (labelLines l)) (needed (listingDue (ending f ls)))
-size-cons accepted k l ls = ap bytes (omega (arith, length-append (labelLines l) (listingOf ls)))
+size-cons (accepted n) k l ls = ap bytes (omega (arith, length-append (labelLines l) (listingOf ls n)))
 size-cons (refusal n p) k l ls = refl
 
-size-trace : (s : List ℕ) (k : ℕ) (p : List (List ℕ)) (t : Trace LabelElement Unit) → longer k (needed (listingDue (ending (final t) (labelsIn epl (List ℕ) frameOf s p t)))) ≡ sizeFrom s k (length (linesOf p)) t
-size-trace s k p stops = ap bytes (add-zero k)
+size-trace : (s : List ℕ) (k : ℕ) (p : List (List ℕ)) (t : EplTrace) → longer k (needed (listingDue (ending (final t) (labelsIn epl (List ℕ) frameOf s p t)))) ≡ sizeFrom s k (length (linesOf p)) t
+size-trace s k p (stops n) = refl
 size-trace s k p (refuses n j) = refl
 size-trace s k p (yields e t) = size-trace s k (p ++ (frameOf s e ∷ [])) t ∙ ap (λ (m : ℕ). sizeFrom s k m t) (length-lines p (frameOf s e))
 size-trace s k p (clears t) = size-trace s k [] t
@@ -71,7 +71,7 @@ abbrev Inv-loop : tie.InvT-loop
 Inv-loop input here₀ total₀ pend₀ here total pend = (sizeFrom input 0 0 (traceOf input fresh) ≡ sizeFrom input total pend (traceOf input here)) × (total + pend + 11 * here .pending ≤ 8589934602 * here .place)
 
 abbrev μ-loop : tie.MeasureT-loop
-μ-loop input here₀ total₀ pend₀ here total pend = 2 * (length input - here .place) + here .pending
+μ-loop input here₀ total₀ pend₀ here total pend = length input - here .place
 
 -- what is counted so far and the rest of the walk, by the answer that the loop matched
 counted : (d : tie.After-step Inv-loop μ-loop) (q : Answer) → d .step .result ≡ q
@@ -178,8 +178,21 @@ loop-again-3 c =
 enum-known-next-4 : tie.Need-enum-known-next-4 Inv-loop μ-loop
 enum-known-next-4 c = search needs
 
+end-len-requires : tie.Need-end-len-requires Inv-loop μ-loop
+end-len-requires c κs = search needs
+
+add-total-3 : tie.Need-add-total-3 Inv-loop μ-loop
+add-total-3 c =
+    let g = c .before .before .next4 .given in
+    let m = moved (c .before .before .before .before) (End (g .0 .0)) (g .1) in
+    omega (arith, m .0 .short, m .0 .inside, m .2, c .end-len .ensures, length-pending-le (g .0 .0 .pending))
+
 returns : tie.Need-returns Inv-loop μ-loop
-returns c = sym (size-is (c .before .before .before .before .before .before .before .args .input .now) ∙ counted (c .before .before .before) (End (c .before .next4 .given .0 .0)) (c .before .next4 .given .1))
+returns c =
+    let d = c .before .before .before .before in
+    let g = c .before .before .next4 .given in
+    ap (λ (m : ℕ). bytes (d .before .loop .total + m)) (c .end-len .ensures)
+    ∙ sym (size-is (d .before .before .before .before .args .input .now) ∙ counted d (End (g .0 .0)) (g .1))
 
 enum-known-next-5 : tie.Need-enum-known-next-5 Inv-loop μ-loop
 enum-known-next-5 c = search needs
@@ -212,6 +225,8 @@ measure-spec =
     loop-less-3
     loop-again-3
     enum-known-next-4
+    end-len-requires
+    add-total-3
     returns
     enum-known-next-5
     returns-2)

@@ -2,7 +2,7 @@
 -- buffer is what it shall be. Measure: what is left of the walk. Assumes nothing.
 use mathlib.Core.Path.{_≡_, refl, _∙_}
 use mathlib.Core.List.{List}
-use Prim.Native.Nat.{ℕ, _+_, _-_, _*_}
+use Prim.Native.Nat.{ℕ, _-_}
 use native.Mathlib.Omega.{arith}
 use lib.ListN.{length}
 use Rattle.text.proofs.WroteTowardLaws.{Toward, begin, room, put, finish}
@@ -22,7 +22,7 @@ abbrev Inv-loop : tie.InvT-loop
 Inv-loop input out₀ at to₀ here₀ out to here = Toward out to (linesOf (frontFrames input here)) out₀ at (linesOf (frontFrames input here₀))
 
 abbrev μ-loop : tie.MeasureT-loop
-μ-loop input out₀ at to₀ here₀ out to here = 2 * (length input - here .place) + here .pending
+μ-loop input out₀ at to₀ here₀ out to here = length input - here .place
 
 -- what is left to write, by the answer that the loop matched
 rest-is : (d : tie.After-step Inv-loop μ-loop) (q : Answer) → d .step .result ≡ q

@@ -1,19 +1,17 @@
 -- `frames::listing::put_labels` meets its contract. Invariant: with the labels from start on, the buffer is what it
 -- shall be; only elements stand between start and here. Measure: what is left of the walk. Assumes nothing.
 use mathlib.Core.Path.{_≡_, refl, sym, ap, _∙_}
-use mathlib.Core.List.{List}
-use Prim.Native.Nat.{ℕ, _+_, _-_, _*_}
+use mathlib.Core.List.{List, [], append-nil}
+use Prim.Native.Nat.{ℕ, _-_}
 use native.Mathlib.Omega.{arith}
 use lib.ListN.{length}
 use Rattle.text.proofs.WroteTowardLaws.{Toward, begin, retold, room, put, finish}
-use Rattle.whole.specs.Trace.{labelsIn, after}
-use Rattle.grammar.specs.Epl.{epl}
-use Rattle.element_frames.specs.Frame.{frameOf}
+use Rattle.whole.specs.Trace.{after}
 use Rattle.walk.specs.Steps.{traceOf}
 use Rattle.elements.specs.declared.walk_state.WalkState.{WalkState}
 use Rattle.walk.specs.declared.answer.Answer.{Answer}
 use Rattle.walk.specs.declared.answer.Answer.the-variants.{Element, Clear, Print, End, Refused}
-use Rattle.frames.specs.Listing.{listingOf, labelText, frontFrames, textFrom, allText}
+use Rattle.frames.specs.Listing.{labelText, pendingLine, frontFrames, textOf, textFrom, allText}
 use Rattle.frames.proofs.ListingLaws.{onStep, Moved, moved-by, text-by, after-by}
 use borrow.Author.Needs.{needs}
 use Rattle.frames.proofs.listing.put_labels.Statement.{statement}
@@ -23,7 +21,7 @@ abbrev Inv-loop : tie.InvT-loop
 Inv-loop input out₀ first₀ here₀ at₀ out first here at = Toward out at (textFrom input first) out₀ 0 (allText input) × (after (traceOf input first) ≡ after (traceOf input here))
 
 abbrev μ-loop : tie.MeasureT-loop
-μ-loop input out₀ first₀ here₀ at₀ out first here at = 2 * (length input - here .place) + here .pending
+μ-loop input out₀ first₀ here₀ at₀ out first here at = length input - here .place
 
 -- the input, where a step was taken
 abbrev source : tie.After-step Inv-loop μ-loop → List ℕ
@@ -31,7 +29,7 @@ source d = d .before .before .before .before .before .before .args .input .now
 
 -- what is left to write, by the answer that the loop matched
 rest-is : (d : tie.After-step Inv-loop μ-loop) (q : Answer) → d .step .result ≡ q
-    → textFrom (source d) (d .before .loop .first) ≡ listingOf (labelsIn epl (List ℕ) frameOf (source d) (frontFrames (source d) (d .before .loop .first)) (after (onStep (source d) q)))
+    → textFrom (source d) (d .before .loop .first) ≡ textOf (source d) (frontFrames (source d) (d .before .loop .first)) (after (onStep (source d) q))
 rest-is d q k =
     let l = d .before .loop in
     text-by (source d) (l .here) (d .step .result) q (d .step .ensures) k (l .first) (l .inv .1)
@@ -99,11 +97,23 @@ loop-again-3 c =
 enum-known-next-4 : tie.Need-enum-known-next-4 Inv-loop μ-loop
 enum-known-next-4 c = search needs
 
+put-end-requires : tie.Need-put-end-requires Inv-loop μ-loop
+put-end-requires c κs =
+    let d = c .before .before .before .before in
+    let g = c .before .before .next4 .given in
+    room (d .before .loop .inv .0) (pendingLine (g .0 .0 .pending)) [] (omega arith) (rest-is d (End (g .0 .0)) (g .1) ∙ sym (append-nil (pendingLine (g .0 .0 .pending))))
+
 same-length : tie.Need-same-length Inv-loop μ-loop
-same-length c = c .before .before .before .before .loop .inv .0 .long
+same-length c =
+    let p = c .before .before in
+    p .put-end .ensures .wrote .long ∙ p .before .before .before .before .before .before .loop .inv .0 .long
 
 returns : tie.Need-returns Inv-loop μ-loop
-returns c = finish (c .before .before .before .before .loop .inv .0) (rest-is (c .before .before .before) (End (c .before .next4 .given .0 .0)) (c .before .next4 .given .1))
+returns c =
+    let p = c .before .before in
+    let d = p .before .before .before .before .before in
+    let g = p .before .before .before .next4 .given in
+    finish (put (d .before .loop .inv .0) [] (rest-is d (End (g .0 .0)) (g .1) ∙ sym (append-nil (pendingLine (g .0 .0 .pending)))) (p .put-end .ensures)) refl
 
 enum-known-next-5 : tie.Need-enum-known-next-5 Inv-loop μ-loop
 enum-known-next-5 c = search needs
@@ -135,6 +145,7 @@ put-labels-spec =
     loop-less-3
     loop-again-3
     enum-known-next-4
+    put-end-requires
     same-length
     returns
     enum-known-next-5

@@ -78,11 +78,8 @@ read-unit-requires c κs =
 enum-told : tie.Need-enum-told Inv-loop μ-loop
 enum-told c = search needs
 
-at-end-requires : tie.Need-at-end-requires Inv-loop μ-loop
-at-end-requires c κs = search needs
-
 returns-4 : tie.Need-returns-4 Inv-loop μ-loop
-returns-4 c = c .at-end .ensures ∙ taken (c .before .before .before) End (c .before .enum-told .given .1)
+returns-4 c = taken (c .before .before) End (c .enum-told .given .1)
 
 enum-known-k : tie.Need-enum-known-k Inv-loop μ-loop
 enum-known-k c = search needs
@@ -108,8 +105,8 @@ loop-again c =
 enum-known-size-2 : tie.Need-enum-known-size-2 Inv-loop μ-loop
 enum-known-size-2 c = search needs
 
-add-t23 : tie.Need-add-t23 Inv-loop μ-loop
-add-t23 c = omega (arith, room (c .before .before .before) (Cleared (c .before .size2 .given .0 .0)) (c .before .size2 .given .1))
+add-t24 : tie.Need-add-t24 Inv-loop μ-loop
+add-t24 c = omega (arith, room (c .before .before .before) (Cleared (c .before .size2 .given .0 .0)) (c .before .size2 .given .1))
 
 returns-6 : tie.Need-returns-6 Inv-loop μ-loop
 returns-6 c = taken (c .before .before .before) (Cleared (c .before .size2 .given .0 .0)) (c .before .size2 .given .1)
@@ -117,11 +114,11 @@ returns-6 c = taken (c .before .before .before) (Cleared (c .before .size2 .give
 enum-known-e : tie.Need-enum-known-e Inv-loop μ-loop
 enum-known-e c = search needs
 
-add-t26 : tie.Need-add-t26 Inv-loop μ-loop
-add-t26 c = omega (arith, room (c .before .before .before) (Element (c .before .e .given .0 .0) (c .before .e .given .0 .1 .0)) (c .before .e .given .1))
-
 add-t27 : tie.Need-add-t27 Inv-loop μ-loop
-add-t27 c = omega arith
+add-t27 c = omega (arith, room (c .before .before .before) (Element (c .before .e .given .0 .0) (c .before .e .given .0 .1 .0)) (c .before .e .given .1))
+
+add-t28 : tie.Need-add-t28 Inv-loop μ-loop
+add-t28 c = omega arith
 
 returns-7 : tie.Need-returns-7 Inv-loop μ-loop
 returns-7 c = rw add-one (taken (c .before .before .before) (Element (c .before .e .given .0 .0) (c .before .e .given .0 .1 .0)) (c .before .e .given .1))
@@ -129,8 +126,8 @@ returns-7 c = rw add-one (taken (c .before .before .before) (Element (c .before 
 enum-known-size-3 : tie.Need-enum-known-size-3 Inv-loop μ-loop
 enum-known-size-3 c = search needs
 
-add-t30 : tie.Need-add-t30 Inv-loop μ-loop
-add-t30 c = omega (arith, room (c .before .before .before .before) (Print (c .before .before .size3 .given .0 .0)) (c .before .before .size3 .given .1))
+add-t31 : tie.Need-add-t31 Inv-loop μ-loop
+add-t31 c = omega (arith, room (c .before .before .before .before) (Print (c .before .before .size3 .given .0 .0)) (c .before .before .size3 .given .1))
 
 returns-8 : tie.Need-returns-8 Inv-loop μ-loop
 returns-8 c =
@@ -166,7 +163,6 @@ step-spec =
     part-read-unit-end
     read-unit-requires
     enum-told
-    at-end-requires
     returns-4
     enum-known-k
     returns-5
@@ -175,14 +171,14 @@ step-spec =
     loop-less
     loop-again
     enum-known-size-2
-    add-t23
+    add-t24
     returns-6
     enum-known-e
-    add-t26
     add-t27
+    add-t28
     returns-7
     enum-known-size-3
-    add-t30
+    add-t31
     returns-8
     add-at-2
     loop-less-2

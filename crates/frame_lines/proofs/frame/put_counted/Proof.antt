@@ -1,9 +1,9 @@
--- `frame_lines::frame::put_count` meets its contract.
+-- `frame_lines::frame::put_counted` meets its contract.
 -- Assumes nothing.
 use Rattle.element_frames.proofs.PutLaws.{then, line}
 use borrow.Author.Needs.{needs}
-use Rattle.frame_lines.proofs.frame.put_count.Statement.{statement}
-use Rattle.frame_lines.proofs.frame.put_count.Tie as tie
+use Rattle.frame_lines.proofs.frame.put_counted.Statement.{statement}
+use Rattle.frame_lines.proofs.frame.put_counted.Tie as tie
 
 put-byte-requires : tie.Need-put-byte-requires
 put-byte-requires c κs = search needs
@@ -20,6 +20,6 @@ same-length c = search needs
 returns : tie.Need-returns
 returns c = line (then (c .before .before .before .before .before .before .before .before .before .before .put-byte .ensures) (c .before .before .before .before .before .before .put-u32 .ensures)) (c .before .before .put-lf .ensures)
 
-pub put-count-spec : {M : Type 1} → statement M
-put-count-spec =
+pub put-counted-spec : {M : Type 1} → statement M
+put-counted-spec =
     tie.close (tie.spec put-byte-requires put-u32-requires put-lf-requires same-length returns)
