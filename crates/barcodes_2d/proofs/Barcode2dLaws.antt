@@ -1,5 +1,5 @@
--- Types, sizes, modes and module widths of 2D bar codes, as the code tests them.
--- Assumes nothing.
+-- Types (`symbology-one`), sizes (`size-tests`), modes (`mode-tests`) and module widths (`clamped-or-le`) of 2D bar
+-- codes, as the code tests them. Assumes nothing.
 use mathlib.Core.Path.{_≡_, refl, sym}
 use mathlib.Core.Bool.{Bool, true, cond, not, _&&_, _||_}
 use mathlib.Core.List.{List}

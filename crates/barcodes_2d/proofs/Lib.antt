@@ -1,6 +1,6 @@
 pub mod OptionsLaws
-pub mod LastLaws
-pub mod CommaLaws
+pub mod OptionsLastLaws
+pub mod OptionsCommaLaws
 pub mod Barcode2dLaws
 pub mod Cases
 pub mod MaxicodeLaws

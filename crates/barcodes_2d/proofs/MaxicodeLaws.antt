@@ -1,6 +1,6 @@
 -- Laws of MaxiCode's automatic mode. The header is ASCII, so it stands in the decoded bytes just where it stands in the
--- raw ones, and what stands before it is decoded by itself; then the turns of the loops, and the mode by cases. Assumes
--- nothing.
+-- raw ones, and what stands before it is decoded by itself (`found-place`, `found-before`); then the turns of the loops
+-- (`place-step`, `postal-skip`, `postal-part`), and the mode by cases (`mode-late`). Assumes nothing.
 use mathlib.Core.Path.{_≡_, refl, sym, ap, _∙_}
 use mathlib.Core.Bool.{Bool, true, false, cond, _&&_, _||_, and-assoc, and-true, and-false, or-true, or-false}
 use mathlib.Core.List.{List, [], _∷_, _++_, flatten}
@@ -178,9 +178,9 @@ header-bytes s h =
 
 -- header_place, at i
 
-pub place-next : (s : List ℕ) (i : ℕ) → i < length s → headerPlace (drop i s) ≡ cond (headerAt (take (length s - i) (drop i s))) zero (suc (headerPlace (drop (i + 1) s)))
+pub place-step : (s : List ℕ) (i : ℕ) → i < length s → headerPlace (drop i s) ≡ cond (headerAt (take (length s - i) (drop i s))) zero (suc (headerPlace (drop (i + 1) s)))
 unfolding headerPlace
-place-next s i h = rw (rest s i, add-one, drop-cons s i 0)
+place-step s i h = rw (rest s i, add-one, drop-cons s i 0)
 
 pub place-end : (s : List ℕ) (i : ℕ) → length s ≤ i → headerPlace (drop i s) ≡ 0
 unfolding headerPlace

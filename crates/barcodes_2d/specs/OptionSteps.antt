@@ -1,5 +1,5 @@
 -- Inner: the parameters of `b` as the reader takes them, in one pass. No claim rests on these: what is taken is proved
--- to be what `Options` says of each letter (`LastLaws`).
+-- to be what `Options` says of each letter (`OptionsLastLaws`).
 use mathlib.Core.Path.{_≡_}
 use Prim.Native.Nat.{ℕ, _+_, _≤_}
 use mathlib.Core.Bool.{Bool, false, cond}

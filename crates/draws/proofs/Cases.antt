@@ -1,6 +1,6 @@
 -- Cases of `LO`, `LS` and `X` (01, "Corners"), by computation, at the reference 0,0.
 -- Assumes nothing.
-use mathlib.Core.Path.{_≡_, refl}
+use mathlib.Core.Path.{_≡_}
 use mathlib.Core.Bool.{true, false}
 use lib.IntN.{pos, negsuc}
 use Rattle.text.specs.Ascii.{ascii}
@@ -18,44 +18,33 @@ use Rattle.draws.specs.Draw.{lineFields, lineElement, lineReading, corne
 abbrev origin : LabelPosition
 origin = record { x = pos 0; y = pos 0 }
 
--- `1,2,3,` of `LO` has 4 fields, the last of them empty: height 1
-empty-height :
-    lineReading (ascii "1,2,3,") Black origin ≡
-    Element (GraphicBox (record { position = record { x = pos 1; y = pos 2 }; width = pos 3; height = pos 1; «border_thickness» = pos 1; «line_color» = Black }))
-unfolding lineReading lineFields lineElement placed pointOf sizeOr numberSpelled before after fields
-empty-height = refl
+record Cases : Type 0 where
+  -- `1,2,3,` of `LO` has 4 fields, the last of them empty: height 1
+  empty-height :
+      lineReading (ascii "1,2,3,") Black origin ≡
+      Element (GraphicBox (record { position = record { x = pos 1; y = pos 2 }; width = pos 3; height = pos 1; «border_thickness» = pos 1; «line_color» = Black }))
+  -- `5,5,1,5,5` of `LS`: both differences are zero, direction 1
+  point :
+      diagonalReading (ascii "5,5,1,5,5") origin ≡
+      Element (DiagonalLine (record { position = record { x = pos 5; y = pos 5 }; width = pos 0; height = pos 0; «border_thickness» = pos 1; «top_to_bottom» = true }))
+  -- `0,0,1,9,0` of `LS`: one is positive and one zero, direction 0
+  flat :
+      diagonalReading (ascii "0,0,1,9,0") origin ≡
+      Element (DiagonalLine (record { position = origin; width = pos 9; height = pos 0; «border_thickness» = pos 1; «top_to_bottom» = false }))
+  -- `2147483647,0,1,-1,0` of `X`: the width 2147483648 has no 32 bits
+  too-wide :
+      boxReading (ascii "2147483647,0,1,-1,0") origin ≡
+      Refused SizeOutside
+  -- `2147483646,0,1,-1,0` of `X`: the widest box
+  widest :
+      boxReading (ascii "2147483646,0,1,-1,0") origin ≡
+      Element (GraphicBox (record { position = record { x = negsuc 0; y = pos 0 }; width = pos 2147483647; height = pos 0; «border_thickness» = pos 1; «line_color» = Black }))
+  -- `2147483647,-1,1,-1,-1` of `X` at 0,-2147483648: the width too, but the position comes first
+  shifted :
+      boxReading (ascii "2147483647,-1,1,-1,-1") (record { x = pos 0; y = negsuc 2147483647 }) ≡
+      Refused OutOfRange
 
--- `5,5,1,5,5` of `LS`: both differences are zero, direction 1
-point :
-    diagonalReading (ascii "5,5,1,5,5") origin ≡
-    Element (DiagonalLine (record { position = record { x = pos 5; y = pos 5 }; width = pos 0; height = pos 0; «border_thickness» = pos 1; «top_to_bottom» = true }))
-unfolding diagonalReading cornersAt drawnAt sizedAt placed pointOf sizeOr numberSpelled before after fields
-point = refl
-
--- `0,0,1,9,0` of `LS`: one is positive and one zero, direction 0
-flat :
-    diagonalReading (ascii "0,0,1,9,0") origin ≡
-    Element (DiagonalLine (record { position = origin; width = pos 9; height = pos 0; «border_thickness» = pos 1; «top_to_bottom» = false }))
-unfolding diagonalReading cornersAt drawnAt sizedAt placed pointOf sizeOr numberSpelled before after fields
-flat = refl
-
--- `2147483647,0,1,-1,0` of `X`: the width 2147483648 has no 32 bits
-too-wide :
-    boxReading (ascii "2147483647,0,1,-1,0") origin ≡
-    Refused SizeOutside
-unfolding boxReading cornersAt drawnAt sizedAt placed pointOf sizeOr numberSpelled before after fields
-too-wide = refl
-
--- `2147483646,0,1,-1,0` of `X`: the widest box
-widest :
-    boxReading (ascii "2147483646,0,1,-1,0") origin ≡
-    Element (GraphicBox (record { position = record { x = negsuc 0; y = pos 0 }; width = pos 2147483647; height = pos 0; «border_thickness» = pos 1; «line_color» = Black }))
-unfolding boxReading cornersAt drawnAt sizedAt placed pointOf sizeOr numberSpelled before after fields
-widest = refl
-
--- `2147483647,-1,1,-1,-1` of `X` at 0,-2147483648: the width too, but the position comes first
-shifted :
-    boxReading (ascii "2147483647,-1,1,-1,-1") (record { x = pos 0; y = negsuc 2147483647 }) ≡
-    Refused OutOfRange
-unfolding boxReading cornersAt drawnAt sizedAt placed pointOf sizeOr numberSpelled before after fields
-shifted = refl
+-- each computes
+cases : Cases
+unfolding lineReading lineFields lineElement placed pointOf sizeOr numberSpelled before after fields diagonalReading cornersAt drawnAt sizedAt boxReading
+cases = search

@@ -1,5 +1,5 @@
 -- The normalised text from a place on, as the loops over blocks and lines want it (`normalised-end`, `block-turn`,
--- `line-turn`), and its length (`block-counts`, `line-counts`). Assumes nothing.
+-- `line-turn`), and its length (`block-counts`, `lined`). Assumes nothing.
 use mathlib.Core.Path.{_≡_, sym, ap, _∙_, refl}
 use mathlib.Core.List.{List, [], _++_, _∷_, append-nil}
 use Prim.Native.Nat.{ℕ, _+_, _-_, _<_, _≤_}
@@ -68,7 +68,20 @@ normalised-end s at h = ap normalised (drop-of-length-le s {i = at} h) ∙ norma
 abbrev pub here : List ℕ → ℕ → List ℕ
 here s at = take (length s - at) (drop at s)
 
-module _ (s : List ℕ) (at n : ℕ) (in-s : at < length s) (b : Blocks (here s at) n) where
+-- a block of n bytes stands there, or a line where n is 0
+pub record Stands (s : List ℕ) (at n : ℕ) : Type 0 where
+  pub in-src : at < length s
+  pub blocks : Blocks (here s at) n
+
+-- a line of k bytes stands there, and m of them stay
+pub record Lined (s : List ℕ) (at k m : ℕ) : Type 0 where
+  pub fits : at + k ≤ length s
+  pub moves : 0 < k
+  pub left : m ≤ k
+  pub some : 0 < m → length (normalised (drop at s)) ≡ m + 1 + length (normalised (drop (at + k) s))
+  pub none : m ≤ 0 → length (normalised (drop at s)) ≡ length (normalised (drop (at + k) s))
+
+module _ {s : List ℕ} {at n : ℕ} (w : Stands s at n) where
   long : length (here s at) ≡ length s - at
   long = ap length (rest s at) ∙ length-drop at s
 
@@ -80,19 +93,19 @@ module _ (s : List ℕ) (at n : ℕ) (in-s : at < length s) (b : Blocks (here s 
 
   -- a block of n bytes
   pub block-in : at + n ≤ length s
-  block-in = omega (arith, b .inside, long, in-s)
+  block-in = omega (arith, w .blocks .inside, long, w .in-src)
 
   pub block-turn : 0 < n → normalised (drop at s) ≡ ended (take n (here s at)) ++ normalised (drop (at + n) s)
-  block-turn h = by-chunk ∙ b .block h normalised ∙ ap (λ (l : List ℕ). ended (take n (here s at)) ++ l) (behind n)
+  block-turn h = by-chunk ∙ w .blocks .block h normalised ∙ ap (λ (l : List ℕ). ended (take n (here s at)) ++ l) (behind n)
 
   pub block-counts : 0 < n → length (normalised (drop at s)) ≡ n + 1 + length (normalised (drop (at + n) s))
   block-counts h =
       let part = take n (here s at) in
-      let l = length-take-le n (here s at) (b .inside) in
+      let l = length-take-le n (here s at) (w .blocks .inside) in
       omega (arith, ap length (block-turn h), length-append (ended part) (normalised (drop (at + n) s)), ended-length part (λ z. omega (arith, z, l, h)), l)
 
   -- a line of k bytes, its LF among them
-  module _ (none : n ≤ 0) (k : ℕ) (size : k ≡ lineSize (here s at)) where
+  module _ {k : ℕ} (none : n ≤ 0) (size : k ≡ lineSize (here s at)) where
     abbrev part : List ℕ
     part = trimAscii (front notLf (here s at))
 
@@ -107,27 +120,16 @@ module _ (s : List ℕ) (at n : ℕ) (in-s : at < length s) (b : Blocks (here s 
         (λ e. without (ltb-false end (length (here s at)) e) (size ∙ sym (size-without end (length (here s at)) (ltb-false end (length (here s at)) e))))
 
     pub line-in : at + k ≤ length s
-    line-in = cases (λ h e. omega (arith, e, h, long, in-s)) (λ h e. omega (arith, e, long, front-le notLf (here s at), in-s))
+    line-in = cases (λ h e. omega (arith, e, h, long, w .in-src)) (λ h e. omega (arith, e, long, front-le notLf (here s at), w .in-src))
 
     pub line-some : 0 < k
-    line-some = cases (λ h e. omega (arith, e)) (λ h e. omega (arith, e, h, long, in-s))
+    line-some = cases (λ h e. omega (arith, e)) (λ h e. omega (arith, e, h, long, w .in-src))
 
     by-line : normalised (drop at s) ≡ written (textLine (here s at)) normalised
-    by-line = by-chunk ∙ ap (λ (f : First EplUnit). written f normalised) (b .line (omega (arith, none)))
+    by-line = by-chunk ∙ ap (λ (f : First EplUnit). written f normalised) (w .blocks .line (omega (arith, none)))
 
     line-is : take end (here s at) ≡ front notLf (here s at)
     line-is = ap (λ (j : ℕ). take j (here s at)) (index-length (here s at)) ∙ sym (front-index (here s at))
-
-    -- m bytes are left of the line, and an LF behind them where there are any
-    module _ (m : ℕ) (left : m ≡ length part) where
-      pub left-le : m ≤ k
-      left-le = let t = length-trimmed-le (front notLf (here s at)) in cases (λ h e. omega (arith, left, e, t)) (λ h e. omega (arith, left, e, t))
-
-      pub ended-some-left : 0 < m → length (ended part) ≡ m + 1
-      ended-some-left h = omega (arith, left, ended-length part (λ z. omega (arith, z, left, h)))
-
-      pub ended-none-left : m ≤ 0 → length (ended part) ≡ 0
-      ended-none-left h = ap length (ended-none part (omega (arith, left, h)))
 
     pub line-turn : normalised (drop at s) ≡ ended part ++ normalised (drop (at + k) s)
     line-turn =
@@ -136,8 +138,20 @@ module _ (s : List ℕ) (at n : ℕ) (in-s : at < length s) (b : Blocks (here s 
         by-line ∙ text-line (here s at) end (index-length (here s at)) h normalised
         ∙ (λ i. ended (trimAscii (line-is i)) ++ behind (end + 1) i) ∙ ap (λ (j : ℕ). ended part ++ normalised (drop (at + j) s)) (sym e))
         (λ h e.
-        by-line ∙ text-last (here s at) end (index-length (here s at)) (omega (arith, long, in-s)) h normalised
+        by-line ∙ text-last (here s at) end (index-length (here s at)) (omega (arith, long, w .in-src)) h normalised
         ∙ (λ i. ended (trimAscii (line-is i)) ++ behind end i) ∙ ap (λ (j : ℕ). ended part ++ normalised (drop (at + j) s)) (sym e))
 
     pub line-counts : length (normalised (drop at s)) ≡ length (ended part) + length (normalised (drop (at + k) s))
     line-counts = ap length line-turn ∙ length-append (ended part) (normalised (drop (at + k) s))
+
+    -- m bytes are left of the line, and an LF behind them where there are any
+    pub lined : {m : ℕ} → m ≡ length part → Lined s at k m
+    lined left =
+        let t = length-trimmed-le (front notLf (here s at)) in
+        record {
+          fits = line-in;
+          moves = line-some;
+          left = cases (λ h e. omega (arith, left, e, t)) (λ h e. omega (arith, left, e, t));
+          some = λ h. omega (arith, line-counts, left, ended-length part (λ z. omega (arith, z, left, h)));
+          none = λ h. omega (arith, line-counts, ap length (ended-none part (omega (arith, left, h))));
+        }

@@ -1,6 +1,6 @@
 -- What a field held, by computation: each of the four answers, and both ends of 32 bits.
 -- Assumes nothing.
-use mathlib.Core.Path.{_≡_, refl}
+use mathlib.Core.Path.{_≡_}
 use mathlib.Core.List.{[], _∷_}
 use lib.IntN.{pos, negsuc}
 use Rattle.text.specs.Ascii.{ascii}
@@ -40,34 +40,7 @@ record Cases : Type 0 where
   no-number-or : fieldOr (pos 8) (ascii "12O") ≡ pos 8
   beyond-or : fieldOr (pos 9) (ascii "2147483648") ≡ pos 9
 
+-- each computes
 cases : Cases
 unfolding numberSpelled
-cases =
-    record {
-      plain = refl;
-      plus = refl;
-      minus = refl;
-      minus-zero = refl;
-      blanks = refl;
-      zeros = refl;
-      greatest = refl;
-      least = refl;
-      nothing = refl;
-      only-blanks = refl;
-      letter-o = refl;
-      plus-alone = refl;
-      minus-alone = refl;
-      blank-inside = refl;
-      two-signs = refl;
-      form-first = refl;
-      minus-form-first = refl;
-      above = refl;
-      plus-above = refl;
-      below = refl;
-      wrapped = refl;
-      minus-wrapped = refl;
-      value-or = refl;
-      empty-or = refl;
-      no-number-or = refl;
-      beyond-or = refl;
-    }
+cases = search

@@ -1,6 +1,6 @@
--- Signed numbers at 32 bits: sums, differences and products in 64, the range test, the magnitude, and reading a number
--- back from its bits.
--- Assumes nothing.
+-- Signed numbers at 32 bits: sums, differences and products fit 64 (`add-fits`, `sub-fits`, `mul-fits`), the range
+-- test (`in32-low`, `in32-high`, `in32-mid`), the magnitude, and a number read back from its bits (`back32`,
+-- `bits-is`). Assumes nothing.
 use mathlib.Core.Path.{_≡_, refl, sym, ap, _∙_}
 use mathlib.Core.Bool.{Bool, true, false, cond}
 use Prim.Native.Nat.{ℕ, zero, suc, _+_, _-_, _*_, _<_, _≤_}
@@ -63,17 +63,17 @@ module _ (a b : ℤ) (p : SFits w32 a) (q : SFits w32 b) where
 
 -- the range test
 
-pub low : (t : ℤ) → ltZ t (negsuc 2147483647) ≡ true → in32 t ≡ false
-low (pos n) e = cc
-low (negsuc n) e = le-ltb n 2147483648 (omega (arith, ltb-true 2147483647 n e))
+pub in32-low : (t : ℤ) → ltZ t (negsuc 2147483647) ≡ true → in32 t ≡ false
+in32-low (pos n) e = cc
+in32-low (negsuc n) e = le-ltb n 2147483648 (omega (arith, ltb-true 2147483647 n e))
 
-pub high : (t : ℤ) → ltZ (pos 2147483647) t ≡ true → in32 t ≡ false
-high (pos n) e = le-ltb n 2147483648 (omega (arith, ltb-true 2147483647 n e))
-high (negsuc n) e = cc
+pub in32-high : (t : ℤ) → ltZ (pos 2147483647) t ≡ true → in32 t ≡ false
+in32-high (pos n) e = le-ltb n 2147483648 (omega (arith, ltb-true 2147483647 n e))
+in32-high (negsuc n) e = cc
 
-pub mid : (t : ℤ) → ltZ t (negsuc 2147483647) ≡ false → ltZ (pos 2147483647) t ≡ false → in32 t ≡ true
-mid (pos n) e f = lt-ltb n 2147483648 (omega (arith, ltb-false 2147483647 n f))
-mid (negsuc n) e f = lt-ltb n 2147483648 (omega (arith, ltb-false 2147483647 n e))
+pub in32-mid : (t : ℤ) → ltZ t (negsuc 2147483647) ≡ false → ltZ (pos 2147483647) t ≡ false → in32 t ≡ true
+in32-mid (pos n) e f = lt-ltb n 2147483648 (omega (arith, ltb-false 2147483647 n f))
+in32-mid (negsuc n) e f = lt-ltb n 2147483648 (omega (arith, ltb-false 2147483647 n e))
 
 -- what a checked result says of the number
 
@@ -82,13 +82,13 @@ checked-in z h = simp (lt-ltb (mag z) 2147483648 h)
 
 -- the magnitude, by the sign
 
-pub neg-abs : (d : ℤ) → ltZ d (pos 0) ≡ true → pos 0 -ℤ d ≡ pos (natAbs d)
-neg-abs (pos n) e = cc (simp (le-ltb n 0 (omega arith)) at e)
-neg-abs (negsuc n) e = ap pos (omega arith)
+pub abs-neg : (d : ℤ) → ltZ d (pos 0) ≡ true → pos 0 -ℤ d ≡ pos (natAbs d)
+abs-neg (pos n) e = cc (simp (le-ltb n 0 (omega arith)) at e)
+abs-neg (negsuc n) e = ap pos (omega arith)
 
-pub pos-abs : (d : ℤ) → ltZ d (pos 0) ≡ false → pos (natAbs d) ≡ d
-pos-abs (pos n) e = refl
-pos-abs (negsuc n) e = cc
+pub abs-pos : (d : ℤ) → ltZ d (pos 0) ≡ false → pos (natAbs d) ≡ d
+abs-pos (pos n) e = refl
+abs-pos (negsuc n) e = cc
 
 -- two numbers have the same bits just where they are the same
 eqb-by : (t : Bool) (a b x y : ℕ) → eqb a b ≡ t → (a ≡ b → x ≡ y) → (x ≡ y → a ≡ b) → eqb x y ≡ t

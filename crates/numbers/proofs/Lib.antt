@@ -1,6 +1,4 @@
 pub mod IntLaws
-pub mod TwosLaws
-pub mod NanLaws
 pub mod NumberLaws
-pub mod PlainLaws
+pub mod NumberPlainLaws
 pub mod Cases

@@ -1,4 +1,4 @@
--- Floats from whole numbers: quotients by any fractions that the two equal.
+-- Floats from whole numbers (`int-val`), and quotients by any fractions that the two equal (`div-at`).
 -- Assumes nothing.
 use mathlib.Core.Path.{_≡_, refl, sym, ap, _∙_}
 use mathlib.Core.Bool.{Bool, true, false, cond}

@@ -1,4 +1,5 @@
--- Fields and parts of the parameter part.
+-- Fields and parts of the parameter part: a type and what follows it (`type-upto`, `after-upto`), a byte alone
+-- (`alone-exactly`), and whether there are enough fields (`reached`, `too-few`, `enough`). Numbers are in PlaceLaws.
 -- Assumes nothing.
 use mathlib.Core.Path.{_≡_, refl, sym, _∙_}
 use mathlib.Core.Bool.{Bool, true, false, not, cond, _&&_}

@@ -1,5 +1,5 @@
--- Numbers by their place: what a call that read one leaves to the next, and what `number_from` reads.
--- Assumes nothing.
+-- Numbers by their place: what a call that read one leaves to the next (`number-next`, `size-next`, `point-next`),
+-- and what `number_from` reads (`plain-comma`, `any-comma`, `past-end`). Fields are in ParamsLaws. Assumes nothing.
 use mathlib.Core.Path.{_≡_, refl, sym, ap, _∙_}
 use mathlib.Core.Bool.{true}
 use mathlib.Core.List.{List}
@@ -16,7 +16,7 @@ use Rattle.numbers.specs.Int.{maxZ}
 use Rattle.numbers.specs.Number.{valueFrom, numberSpelled, fieldOr}
 use Rattle.text.proofs.BoolLaws.{test, within-high}
 use Rattle.text.proofs.FieldsLaws.{index-le}
-use Rattle.numbers.proofs.PlainLaws.{field-digits, index-digit, index-end, index-here, value-digit, value-end}
+use Rattle.numbers.proofs.NumberPlainLaws.{field-digits, index-digit, index-end, index-here, value-digit, value-end}
 use Rattle.parameters.specs.FieldValues.{sizeOr, pointOf}
 use Rattle.parameters.specs.Params.{numberAt, sizeAt, pointAt, placeOf, numberFrom, sizeFrom, pointFrom}
 use Rattle.parameters.specs.declared.field_reader.Numbered.{Numbered}

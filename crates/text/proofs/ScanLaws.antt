@@ -22,8 +22,8 @@ none-join {i = i} m n = record { none = λ k p q e. ⊎-elim (λ z. n .none k (o
 pub none-step : {a : List ℕ} {b lo j : ℕ} (i : ℕ) → None a b lo i → (getD a i 0 ≡ b → ⊥) → j ≡ i + 1 → None a b lo j
 none-step {a} {b} i n h l = none-join n (record { none = λ k p q e. h (subst (λ (x : ℕ). getD a x 0 ≡ b) (let s : k ≡ i = omega arith in s) e) })
 
-pub passed-step : {a : List ℕ} {b lo j : ℕ} (i : ℕ) → Passed a b lo i → i < length a → (getD a i 0 ≡ b → ⊥) → j ≡ i + 1 → Passed a b lo j
-passed-step i p h n e = record { low = omega (arith, p .low); high = omega arith; before = none-step i (p .before) n e }
+pub passed-step : {a : List ℕ} {b lo i j : ℕ} → Passed a b lo i → i < length a → (getD a i 0 ≡ b → ⊥) → j ≡ i + 1 → Passed a b lo j
+passed-step {i = i} p h n e = record { low = omega (arith, p .low); high = omega arith; before = none-step i (p .before) n e }
 
 pub first-join : {a : List ℕ} {b lo i hi r : ℕ} → lo ≤ i → None a b lo i → First a b i hi r → First a b lo hi r
 first-join h n f = let l = f .low in record { low = omega arith; high = f .high; before = none-join n (f .before); found = f .found }

@@ -1,5 +1,5 @@
--- The code's steps over parts, in the terms that the code has (`run-step`, `decode-left`, `count-again`,
--- `write-again`). The laws are in Utf8Laws. Assumes nothing.
+-- The code's steps over parts, in the terms that the code has (`part-step`, `decode-left`, `count-step`,
+-- `write-step`). The laws are in Utf8Laws. Assumes nothing.
 use mathlib.Core.Path.{_≡_, refl, sym, ap, _∙_}
 use mathlib.Core.Bool.{true, false}
 use mathlib.Core.List.{List, [], _∷_, _++_, map, flatten}
@@ -16,11 +16,11 @@ use Rattle.text.proofs.BoolLaws.{test}
 use Rattle.text.proofs.WroteLaws.{wrote, wrote-left}
 use Rattle.text.proofs.Utf8Laws.{parts-cons}
 
--- run, at the place i of s where the loop of `part_len` stands
-
-module _ (lo hi n : ℕ) (s : List ℕ) (i : ℕ) where
-  pub run-step : i < n → i < length s → within lo hi (getD s i 0) ≡ true → run lo hi (n - i) (drop i s) ≡ suc (run 128 191 (n - (i + 1)) (drop (i + 1) s))
-  run-step p q h = let e : n - i ≡ suc (n - (i + 1)) = omega arith in rw (e, add-one, drop-cons s i 0) (simp h)
+-- the loop of `part_len` at place i of s: of a sequence of n bytes i stand there, and what goes on with it is in lo..hi
+pub record Parted (s : List ℕ) (n lo hi i : ℕ) : Type 0 where
+  pub some : 0 < i
+  pub fits : i ≤ length s
+  pub is : partLen s ≡ i + run lo hi (n - i) (drop i s)
 
 run-other : (lo hi k b : ℕ) (s : List ℕ) → within lo hi b ≡ false → run lo hi k (b ∷ s) ≡ 0
 run-other lo hi zero b s h = refl
@@ -30,9 +30,16 @@ run-nil : (lo hi k : ℕ) → run lo hi k [] ≡ 0
 run-nil lo hi zero = refl
 run-nil lo hi (suc k) = refl
 
-module _ (s : List ℕ) (lo hi n i : ℕ) (p : 0 < i) (l : i ≤ length s) (e : partLen s ≡ i + run lo hi (n - i) (drop i s)) where
+module _ {s : List ℕ} {n lo hi i : ℕ} (inv : Parted s n lo hi i) where
+  -- one byte more goes on with it
+  pub part-step : i < min n (length s) → within lo hi (getD s i 0) ≡ true → Parted s n 128 191 (i + 1)
+  part-step q h =
+      let e : n - i ≡ suc (n - (i + 1)) = omega arith in
+      let r : run lo hi (n - i) (drop i s) ≡ suc (run 128 191 (n - (i + 1)) (drop (i + 1) s)) = rw (e, add-one, drop-cons s i 0 (omega arith)) (simp h) in
+      record { some = omega arith; fits = omega arith; is = inv .is ∙ omega arith }
+
   ends : run lo hi (n - i) (drop i s) ≡ 0 → PartLen s i
-  ends h = record { is = omega arith; fits = l; some = λ z. p }
+  ends h = record { is = omega arith; fits = inv .fits; some = λ z. inv .some }
 
   -- the sequence has the bytes that it needs, or s ends
   pub part-full : min n (length s) ≤ i → PartLen s i
@@ -49,9 +56,9 @@ pub part-empty : (s : List ℕ) → length s ≡ 0 → PartLen s 0
 part-empty [] h = record { is = refl; fits = omega arith; some = λ z. z }
 part-empty (a ∷ s) h = absurd (omega arith)
 
-pub part-first : (s : List ℕ) (n lo hi : ℕ) → 0 < length s → n ≡ need (getD s 0 0) → lo ≡ low (getD s 0 0) → hi ≡ high (getD s 0 0) → partLen s ≡ 1 + run lo hi (n - 1) (drop 1 s)
-part-first [] n lo hi h d e f = absurd (omega arith)
-part-first (a ∷ s) n lo hi h d e f = rw (d, e, f) (omega arith)
+pub part-first : (s : List ℕ) {n lo hi : ℕ} → 0 < length s → n ≡ need (getD s 0 0) → lo ≡ low (getD s 0 0) → hi ≡ high (getD s 0 0) → Parted s n lo hi 1
+part-first [] h d e f = absurd (omega arith)
+part-first (a ∷ s) h d e f = record { some = omega arith; fits = h; is = rw (d, e, f) (omega arith) }
 
 -- whole and shown
 
@@ -89,45 +96,52 @@ unfolding flatten
 decode-none [] h = refl
 decode-none (a ∷ t) h = absurd (omega arith)
 
--- the loops that count, with m the length of what is shown for the part
-module _ (s t : List ℕ) (k m : ℕ) (h : 0 < length t) (l : PartLen t k) (e : m ≡ length (shown (take k t))) (le : length t ≤ length s) where
-  pub count-less : length (take (length t - k) (drop k t)) < length t
-  count-less = let a = left-less t k h l in let b = l .some h in omega arith
+-- the loop of `decoded_len`: n bytes were counted up to t, the end of s
+pub record Counted (s : List ℕ) (most n : ℕ) (t : List ℕ) : Type 0 where
+  pub fits : length t ≤ length s
+  pub below : n ≤ most
+  pub is : length (decode s) ≡ n + length (decode t)
 
-  pub count-again : (n most : ℕ) → m ≤ most - n → n ≤ most → length (decode s) ≡ n + length (decode t)
-      → (length (take (length t - k) (drop k t)) ≤ length s) × (n + m ≤ most) × (length (decode s) ≡ n + m + length (decode (take (length t - k) (drop k t))))
-  count-again n most p q r =
-      let a = left-less t k h l in let c = length-left t k h l in
-      (omega arith, omega arith, omega arith)
+-- the loop of `write_decoded`: what t, the end of s, is decoded to, stored on what is written so far, gives the end's bytes
+pub record Stored (s out₀ : List ℕ) (at : ℕ) (out : List ℕ) (o : ℕ) (t : List ℕ) : Type 0 where
+  pub fits : length t ≤ length s
+  pub room : o + length (decode t) ≡ at + length (decode s)
+  pub long : length out ≡ length out₀
+  pub is : sets out o (decode t) ≡ sets out₀ at (decode s)
 
-  pub count-most : (n most : ℕ) → most - n < m → length (decode s) ≡ n + length (decode t) → most ≡ min most (length (decode s))
-  count-most n most p r = let c = length-left t k h l in omega arith
+-- a turn of either, with m the length of what is shown for the part
+module _ {t : List ℕ} {k : ℕ} (h : 0 < length t) (l : PartLen t k) where
+  pub left-lt : length (take (length t - k) (drop k t)) < length t
+  left-lt = let a = left-less t k h l in let b = l .some h in omega arith
 
-pub count-end : (s t : List ℕ) (n most : ℕ) → length t ≤ 0 → n ≤ most → length (decode s) ≡ n + length (decode t) → n ≡ min most (length (decode s))
-count-end s t n most h p e = let z = ap length (decode-none t h) in omega arith
+  module _ {m : ℕ} (e : m ≡ length (shown (take k t))) where
+    pub count-step : {s : List ℕ} {most n : ℕ} → Counted s most n t → m ≤ most - n → Counted s most (n + m) (take (length t - k) (drop k t))
+    count-step inv p = let a = left-less t k h l in let c = length-left t k h l in record { fits = omega arith; below = omega arith; is = omega arith }
 
--- put_part and write_decoded
+    pub count-most : {s : List ℕ} {most n : ℕ} → Counted s most n t → most - n < m → most ≡ min most (length (decode s))
+    count-most inv p = let c = length-left t k h l in omega arith
+
+    pub write-step : {s out₀ out n : List ℕ} {at o : ℕ} → Stored s out₀ at out o t → Wrote n out o (shown (take k t)) → Stored s out₀ at n (o + m) (take (length t - k) (drop k t))
+    write-step {n = n} {o = o} inv w =
+        let a = left-less t k h l in let b = length-left t k h l in
+        let u = take (length t - k) (drop k t) in
+        record {
+          fits = omega arith;
+          room = omega arith;
+          long = w .long ∙ inv .long;
+          is = ap (λ (i : ℕ). sets n (o + i) (decode u)) e ∙ wrote-left (shown (take k t)) (decode u) w ∙ ap (sets _ o) (sym (decode-left t k h l)) ∙ inv .is;
+        }
+
+pub count-end : {s t : List ℕ} {most n : ℕ} → Counted s most n t → length t ≤ 0 → n ≡ min most (length (decode s))
+count-end {t = t} inv h = let z = ap length (decode-none t h) in omega arith
+
+pub write-end : {s out₀ out t : List ℕ} {at o : ℕ} → Stored s out₀ at out o t → length t ≤ 0 → Wrote out out₀ at (decode s)
+write-end {out = out} {t = t} {o = o} inv h = wrote (ap (sets out o) (sym (decode-none t h)) ∙ inv .is)
+
+-- put_part
 
 pub shown-whole : (p : List ℕ) → whole p ≡ true → shown p ≡ p
 shown-whole p h = simp h
 
 pub shown-part : (p : List ℕ) → whole p ≡ false → shown p ≡ replacement
 shown-part p h = simp h
-
--- what is left of the text, stored on what is written so far, gives the end's bytes
-module _ (s t out out₀ : List ℕ) (o at k m : ℕ) (h : 0 < length t) (l : PartLen t k) (e : m ≡ length (shown (take k t)))
-    (le : length t ≤ length s) (room : o + length (decode t) ≡ at + length (decode s)) (long : length out ≡ length out₀)
-    (is : sets out o (decode t) ≡ sets out₀ at (decode s)) where
-  pub write-again : (n : List ℕ) → Wrote n out o (shown (take k t))
-      → (length (take (length t - k) (drop k t)) ≤ length s)
-      × (o + m + length (decode (take (length t - k) (drop k t))) ≡ at + length (decode s))
-      × (length n ≡ length out₀)
-      × (sets n (o + m) (decode (take (length t - k) (drop k t))) ≡ sets out₀ at (decode s))
-  write-again n w =
-      let a = left-less t k h l in let b = length-left t k h l in
-      let u = take (length t - k) (drop k t) in
-      let f : sets n (o + m) (decode u) ≡ sets out o (shown (take k t) ++ decode u) = ap (λ (i : ℕ). sets n (o + i) (decode u)) e ∙ wrote-left (shown (take k t)) (decode u) w in
-      (omega arith, omega arith, w .long ∙ long, f ∙ ap (sets out o) (sym (decode-left t k h l)) ∙ is)
-
-pub write-end : (s t out out₀ : List ℕ) (o at : ℕ) → length t ≤ 0 → sets out o (decode t) ≡ sets out₀ at (decode s) → Wrote out out₀ at (decode s)
-write-end s t out out₀ o at h e = wrote (ap (sets out o) (sym (decode-none t h)) ∙ e)

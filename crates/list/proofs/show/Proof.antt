@@ -7,27 +7,13 @@ use Rattle.frames.proofs.PrintingProgramLaws.{shows, listing-room}
 use Rattle.list.proofs.show.Statement.{statement}
 use Rattle.list.proofs.show.Tie as tie
 
-first-requires : tie.Need-first-requires
-first-requires c κs = search needs
-
-print-listing-requires : tie.Need-print-listing-requires
-print-listing-requires c κs = search needs
-
 returns : tie.Need-returns
 returns c =
     let f = c .before .before in
     let a = f .before .before .args in
     let read = f .before .first-arg .given .0 in
     let room = c .before .print-listing-arg .given .1 in
-    shows
-    dueOf
-    (a .input .now)
-    (a .out .now)
-    (omega arith)
-    (omega arith)
-    (λ s h t e. omega (arith, listing-room s h t e))
-    (a .n)
-    (rw (f .first .ensures) at (c .print-listing .ensures))
+    shows dueOf (a .input .now) (a .out .now) (omega arith) (omega arith) (λ s h t e. omega (arith, listing-room s h t e)) (a .n) (rw (f .first .ensures) at (c .print-listing .ensures))
 
 pub show-spec : {M : Type 1} → statement M
-show-spec = tie.close (tie.spec first-requires print-listing-requires returns)
+show-spec = tie.close (tie.spec (λ c κs. search needs) (λ c κs. search needs) returns)

@@ -9,27 +9,13 @@ use Rattle.normalise.proofs.PrintedLaws.{normalised-room}
 use Rattle.normalise.proofs.show.Statement.{statement}
 use Rattle.normalise.proofs.show.Tie as tie
 
-first-requires : tie.Need-first-requires
-first-requires c κs = search needs
-
-print-normalised-requires : tie.Need-print-normalised-requires
-print-normalised-requires c κs = search needs
-
 returns : tie.Need-returns
 returns c =
     let f = c .before .before in
     let a = f .before .before .args in
     let read = f .before .first-arg .given .0 in
     let room = c .before .print-normalised-arg .given .1 in
-    shows
-    dueOf
-    (a .input .now)
-    (a .out .now)
-    (omega arith)
-    (omega arith)
-    (λ s h t e. omega (arith, normalised-room s h t e))
-    (a .n)
-    (rw (f .first .ensures) at (c .print-normalised .ensures))
+    shows dueOf (a .input .now) (a .out .now) (omega arith) (omega arith) (λ s h t e. omega (arith, normalised-room s h t e)) (a .n) (rw (f .first .ensures) at (c .print-normalised .ensures))
 
 pub show-spec : {M : Type 1} → statement M
-show-spec = tie.close (tie.spec first-requires print-normalised-requires returns)
+show-spec = tie.close (tie.spec (λ c κs. search needs) (λ c κs. search needs) returns)

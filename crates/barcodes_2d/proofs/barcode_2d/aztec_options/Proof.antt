@@ -7,21 +7,9 @@ use Rattle.numbers.proofs.IntLaws.{back32}
 use Rattle.barcodes_2d.specs.Barcode2d.{aztecOf}
 use Rattle.barcodes_2d.specs.Options.{lastNumber, lastClamped}
 use Rattle.barcodes_2d.specs.declared.options.Options.{Options}
-use Rattle.barcodes_2d.proofs.LastLaws.{last-number}
+use Rattle.barcodes_2d.proofs.OptionsLastLaws.{last-number}
 use Rattle.barcodes_2d.proofs.barcode_2d.aztec_options.Statement.{statement}
 use Rattle.barcodes_2d.proofs.barcode_2d.aztec_options.Tie as tie
-
-options-of-requires : tie.Need-options-of-requires
-options-of-requires c κs = search needs
-
-clamped-or-requires : tie.Need-clamped-or-requires
-clamped-or-requires c κs = search needs
-
-number-or-requires : tie.Need-number-or-requires
-number-or-requires c κs = search needs
-
-aztec-size-requires : tie.Need-aztec-size-requires
-aztec-size-requires c κs = search needs
 
 returns : tie.Need-returns
 unfolding aztecOf lastNumber lastClamped
@@ -42,10 +30,5 @@ returns c =
 
 pub aztec-options-spec : {M : Type 1} → statement M
 aztec-options-spec =
-    tie.close
-    (tie.spec
-    options-of-requires
-    clamped-or-requires
-    number-or-requires
-    aztec-size-requires
+    tie.close (tie.spec (λ c κs. search needs) (λ c κs. search needs) (λ c κs. search needs) (λ c κs. search needs)
     returns)

@@ -7,21 +7,9 @@ use Rattle.numbers.proofs.IntLaws.{back32}
 use Rattle.barcodes_2d.specs.Barcode2d.{datamatrixOf}
 use Rattle.barcodes_2d.specs.Options.{lastCount, lastClamped}
 use Rattle.barcodes_2d.specs.declared.options.Options.{Options}
-use Rattle.barcodes_2d.proofs.LastLaws.{last-any, last-number}
+use Rattle.barcodes_2d.proofs.OptionsLastLaws.{last-any, last-number}
 use Rattle.barcodes_2d.proofs.barcode_2d.datamatrix_options.Statement.{statement}
 use Rattle.barcodes_2d.proofs.barcode_2d.datamatrix_options.Tie as tie
-
-options-of-requires : tie.Need-options-of-requires
-options-of-requires c κs = search needs
-
-clamped-or-requires : tie.Need-clamped-or-requires
-clamped-or-requires c κs = search needs
-
-number-or-requires : tie.Need-number-or-requires
-number-or-requires c κs = search needs
-
-number-or-requires-2 : tie.Need-number-or-requires-2
-number-or-requires-2 c κs = search needs
 
 returns : tie.Need-returns
 unfolding datamatrixOf lastCount lastClamped
@@ -43,10 +31,5 @@ returns c =
 
 pub datamatrix-options-spec : {M : Type 1} → statement M
 datamatrix-options-spec =
-    tie.close
-    (tie.spec
-    options-of-requires
-    clamped-or-requires
-    number-or-requires
-    number-or-requires-2
+    tie.close (tie.spec (λ c κs. search needs) (λ c κs. search needs) (λ c κs. search needs) (λ c κs. search needs)
     returns)

@@ -26,16 +26,10 @@ returns c =
     let t = c .before .before .args .«data» .now in
     simp (le-leb (length (decode t)) 9999 (omega (arith, length-decode-le t)))
 
-add-decoded-len : tie.Need-add-decoded-len
-add-decoded-len c = search needs
-
-decoded-len-requires : tie.Need-decoded-len-requires
-decoded-len-requires c κs = search needs
-
 returns-2 : tie.Need-returns-2
 returns-2 c =
     let n = length (decode (c .before .before .before .args .«data» .now)) in
     rw (c .decoded-len .ensures) (over-min n)
 
 pub is-over-spec : {M : Type 1} → statement M
-is-over-spec = tie.close (tie.spec returns add-decoded-len decoded-len-requires returns-2)
+is-over-spec = tie.close (tie.spec returns (λ c. search needs) (λ c κs. search needs) returns-2)

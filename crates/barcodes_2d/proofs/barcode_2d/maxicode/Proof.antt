@@ -6,18 +6,9 @@ use Rattle.barcodes_2d.specs.Barcode2d.{maxicodeReading}
 use Rattle.barcodes_2d.proofs.barcode_2d.maxicode.Statement.{statement}
 use Rattle.barcodes_2d.proofs.barcode_2d.maxicode.Tie as tie
 
-enum-known-at : tie.Need-enum-known-at
-enum-known-at c = search needs
-
-enum-told : tie.Need-enum-told
-enum-told c = search needs
-
 returns : tie.Need-returns
 unfolding maxicodeReading
 returns c = simp (c .enum-told .given .1)
-
-maxicode-mode-requires : tie.Need-maxicode-mode-requires
-maxicode-mode-requires c κs = search needs
 
 returns-2 : tie.Need-returns-2
 unfolding maxicodeReading
@@ -26,5 +17,4 @@ returns-2 c =
     rw (back32 (m .result) (m .ok)) (simp (c .before .before .at .given .1, m .ensures))
 
 pub maxicode-spec : {M : Type 1} → statement M
-maxicode-spec =
-    tie.close (tie.spec enum-known-at enum-told returns maxicode-mode-requires returns-2)
+maxicode-spec = tie.close (tie.spec (λ c. search needs) (λ c. search needs) returns (λ c κs. search needs) returns-2)

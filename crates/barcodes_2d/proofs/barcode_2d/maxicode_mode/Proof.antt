@@ -17,7 +17,7 @@ use Rattle.numbers.specs.Number.{numberOr}
 use Rattle.barcodes_2d.specs.Barcode2d.{isMode, modeOf}
 use Rattle.barcodes_2d.specs.Options.{optionsOf, lastCount}
 use Rattle.barcodes_2d.specs.declared.options.Options.{Options}
-use Rattle.barcodes_2d.proofs.LastLaws.{last-any}
+use Rattle.barcodes_2d.proofs.OptionsLastLaws.{last-any}
 use Rattle.barcodes_2d.proofs.Barcode2dLaws.{mode-tests}
 use Rattle.barcodes_2d.proofs.barcode_2d.maxicode_mode.Statement.{statement}
 use Rattle.barcodes_2d.proofs.barcode_2d.maxicode_mode.Tie as tie
@@ -44,15 +44,6 @@ other d =
     ap isMode (sym (is m))
     ∙ ⊎-elim (λ v. mode-tests (read m) (v .taken) refl six) (λ v. mode-tests (read m) (v .0 .left) (v .1 .left) six) (d .if1 .came)
 
-options-of-requires : tie.Need-options-of-requires
-options-of-requires c κs = search needs
-
-number-or-requires : tie.Need-number-or-requires
-number-or-requires c κs = search needs
-
-auto-maxicode-mode-requires : tie.Need-auto-maxicode-mode-requires
-auto-maxicode-mode-requires c κs = search needs
-
 returns : tie.Need-returns
 unfolding modeOf
 returns c = simp (other (c .before)) (back32 (c .auto-maxicode-mode .result) (c .auto-maxicode-mode .ok) ∙ c .auto-maxicode-mode .ensures)
@@ -72,5 +63,5 @@ returns-3 c =
 
 pub maxicode-mode-spec : {M : Type 1} → statement M
 maxicode-mode-spec =
-    tie.close
-    (tie.spec options-of-requires number-or-requires auto-maxicode-mode-requires returns returns-2 returns-3)
+    tie.close (tie.spec (λ c κs. search needs) (λ c κs. search needs) (λ c κs. search needs)
+    returns returns-2 returns-3)

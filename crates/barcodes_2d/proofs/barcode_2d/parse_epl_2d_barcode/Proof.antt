@@ -20,24 +20,9 @@ counted d =
     let s = p .before .before .before .args .params .now in
     reached 2 s s (p .point-from .result .next) (point-next _ _ refl (p .point-from .ensures)) refl (d .reaches .ensures)
 
-point-from-requires : tie.Need-point-from-requires
-point-from-requires c κs = search needs
-
-reaches-requires : tie.Need-reaches-requires
-reaches-requires c κs = search needs
-
 returns : tie.Need-returns
 unfolding barcode2dReading
 returns c = too-few _ _ _ _ (counted (c .before)) (c .if1 .taken)
-
-place-requires : tie.Need-place-requires
-place-requires c κs = search needs
-
-rest-from-requires : tie.Need-rest-from-requires
-rest-from-requires c κs = search needs
-
-typed-2d-requires : tie.Need-typed-2d-requires
-typed-2d-requires c κs = search needs
 
 returns-2 : tie.Need-returns-2
 unfolding barcode2dReading typeAt pointAt pointOf
@@ -51,12 +36,6 @@ returns-2 c =
 
 pub parse-epl-2d-barcode-spec : {M : Type 1} → statement M
 parse-epl-2d-barcode-spec =
-    tie.close
-    (tie.spec
-    point-from-requires
-    reaches-requires
-    returns
-    place-requires
-    rest-from-requires
-    typed-2d-requires
+    tie.close (tie.spec (λ c κs. search needs) (λ c κs. search needs)
+    returns (λ c κs. search needs) (λ c κs. search needs) (λ c κs. search needs)
     returns-2)

@@ -10,36 +10,15 @@ use Rattle.barcodes_2d.specs.Options.{lastCount, lastNumber, lastClamped
 use Rattle.barcodes_2d.specs.declared.options.Options.{Options}
 use Rattle.barcodes_2d.specs.OptionSteps.{numberOf}
 use Rattle.barcodes_2d.proofs.Barcode2dLaws.{clamped-or-le}
-use Rattle.barcodes_2d.proofs.LastLaws.{last-any, last-number, last-truncate}
+use Rattle.barcodes_2d.proofs.OptionsLastLaws.{last-any, last-number, last-truncate}
 use Rattle.barcodes_2d.proofs.barcode_2d.pdf417_options.Statement.{statement}
 use Rattle.barcodes_2d.proofs.barcode_2d.pdf417_options.Tie as tie
-
-options-of-requires : tie.Need-options-of-requires
-options-of-requires c κs = search needs
-
-number-or-requires : tie.Need-number-or-requires
-number-or-requires c κs = search needs
-
-epl-rotation-requires : tie.Need-epl-rotation-requires
-epl-rotation-requires c κs = search needs
-
-clamped-or-requires : tie.Need-clamped-or-requires
-clamped-or-requires c κs = search needs
 
 pdf417-row-height-requires : tie.Need-pdf417-row-height-requires
 pdf417-row-height-requires c κs =
     let w = c .clamped-or in
     let o = c .before .before .before .options-of .result in
     rw (back32 (w .result) (w .ok), w .ensures) (clamped-or-le 6 2 9 (numberOf (o .x)) (omega arith))
-
-clamped-or-requires-2 : tie.Need-clamped-or-requires-2
-clamped-or-requires-2 c κs = search needs
-
-number-or-requires-2 : tie.Need-number-or-requires-2
-number-or-requires-2 c κs = search needs
-
-number-or-requires-3 : tie.Need-number-or-requires-3
-number-or-requires-3 c κs = search needs
 
 returns : tie.Need-returns
 unfolding pdf417Of pdf417RowHeight pdf417ModuleWidth lastCount lastNumber lastClamped
@@ -73,14 +52,6 @@ returns c =
 
 pub pdf417-options-spec : {M : Type 1} → statement M
 pdf417-options-spec =
-    tie.close
-    (tie.spec
-    options-of-requires
-    number-or-requires
-    epl-rotation-requires
-    clamped-or-requires
-    pdf417-row-height-requires
-    clamped-or-requires-2
-    number-or-requires-2
-    number-or-requires-3
+    tie.close (tie.spec (λ c κs. search needs) (λ c κs. search needs) (λ c κs. search needs) (λ c κs. search needs)
+    pdf417-row-height-requires (λ c κs. search needs) (λ c κs. search needs) (λ c κs. search needs)
     returns)

@@ -12,13 +12,10 @@ use Rattle.barcodes_2d.proofs.barcode_2d.pdf417_row_height.Tie as tie
 mul-clamped-or : tie.Need-mul-clamped-or
 mul-clamped-or c = record { sfits = rw (toZ-ofZ (c .fits .module-width)) (four-fits (c .args .module-width) (c .pre)) }
 
-clamped-or-requires : tie.Need-clamped-or-requires
-clamped-or-requires c κs = search needs
-
 returns : tie.Need-returns
 returns c =
     let s = c .before in
     back32 (c .clamped-or .result) (c .clamped-or .ok) ∙ (rw (toZ-ofZ (mul-clamped-or s), toZ-ofZ (s .fits .module-width)) at (c .clamped-or .ensures))
 
 pub pdf417-row-height-spec : {M : Type 1} → statement M
-pdf417-row-height-spec = tie.close (tie.spec mul-clamped-or clamped-or-requires returns)
+pdf417-row-height-spec = tie.close (tie.spec mul-clamped-or (λ c κs. search needs) returns)

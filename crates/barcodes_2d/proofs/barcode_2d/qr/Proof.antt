@@ -12,7 +12,7 @@ use Rattle.numbers.proofs.IntLaws.{back32}
 use Rattle.barcodes_2d.specs.Barcode2d.{qrOf, qrReading}
 use Rattle.barcodes_2d.specs.Options.{lastClamped}
 use Rattle.barcodes_2d.specs.declared.options.Options.{Options}
-use Rattle.barcodes_2d.proofs.LastLaws.{last-number, last-level}
+use Rattle.barcodes_2d.proofs.OptionsLastLaws.{last-number, last-level}
 use Rattle.barcodes_2d.proofs.barcode_2d.qr.Statement.{statement}
 use Rattle.barcodes_2d.proofs.barcode_2d.qr.Tie as tie
 
@@ -22,31 +22,13 @@ over d = not-true _ (sym (d .before .is-over .ensures) ∙ d .if1 .taken)
 within : (d : tie.Else1) → leb (length (decode (d .before .before .before .before .args .«data» .now))) 9999 ≡ true
 within d = not-false _ (sym (d .before .is-over .ensures) ∙ d .if1 .left)
 
-is-over-requires : tie.Need-is-over-requires
-is-over-requires c κs = search needs
-
 returns : tie.Need-returns
 unfolding qrReading
 returns c = simp (over c)
 
-enum-known-at : tie.Need-enum-known-at
-enum-known-at c = search needs
-
-enum-told : tie.Need-enum-told
-enum-told c = search needs
-
 returns-2 : tie.Need-returns-2
 unfolding qrReading
 returns-2 c = simp (within (c .before .before), c .enum-told .given .1)
-
-options-of-requires : tie.Need-options-of-requires
-options-of-requires c κs = search needs
-
-clamped-or-requires : tie.Need-clamped-or-requires
-clamped-or-requires c κs = search needs
-
-qr-level-requires : tie.Need-qr-level-requires
-qr-level-requires c κs = search needs
 
 returns-3 : tie.Need-returns-3
 unfolding qrReading qrOf lastClamped
@@ -68,14 +50,7 @@ returns-3 c =
 
 pub qr-spec : {M : Type 1} → statement M
 qr-spec =
-    tie.close
-    (tie.spec
-    is-over-requires
-    returns
-    enum-known-at
-    enum-told
-    returns-2
-    options-of-requires
-    clamped-or-requires
-    qr-level-requires
+    tie.close (tie.spec (λ c κs. search needs)
+    returns (λ c. search needs) (λ c. search needs)
+    returns-2 (λ c κs. search needs) (λ c κs. search needs) (λ c κs. search needs)
     returns-3)

@@ -4,15 +4,6 @@ use borrow.Author.Tests.{ne-eqb}
 use Rattle.barcodes_2d.proofs.barcode_2d.qr_level.Statement.{statement}
 use Rattle.barcodes_2d.proofs.barcode_2d.qr_level.Tie as tie
 
-returns : tie.Need-returns
-returns c = rw (c .match .keys1)
-
-returns-2 : tie.Need-returns-2
-returns-2 c = rw (c .match .keys2)
-
-returns-3 : tie.Need-returns-3
-returns-3 c = rw (c .match .keys3)
-
 returns-4 : tie.Need-returns-4
 returns-4 c =
     let b = c .before .args .b in
@@ -20,4 +11,5 @@ returns-4 c =
     simp (ne-eqb b 76 (r .0 .0 .1), ne-eqb b 81 (r .0 .1), ne-eqb b 72 (r .1))
 
 pub qr-level-spec : {M : Type 1} → statement M
-qr-level-spec = tie.close (tie.spec returns returns-2 returns-3 returns-4)
+qr-level-spec =
+    tie.close (tie.spec (λ c. rw (c .match .keys1)) (λ c. rw (c .match .keys2)) (λ c. rw (c .match .keys3)) returns-4)

@@ -16,9 +16,6 @@ one d = symbology-one (d .before .before .args .t .now) (search needs)
 returns : tie.Need-returns
 returns c = symbology-other (c .before .args .t .now) (c .if1 .taken)
 
-shared-slice-read-a : tie.Need-shared-slice-read-a
-shared-slice-read-a c = search needs
-
 returns-2 : tie.Need-returns-2
 unfolding letterOf
 returns-2 c = rw (one (c .before), c .match .keys1)
@@ -48,13 +45,4 @@ returns-7 c =
 
 pub symbology-of-spec : {M : Type 1} → statement M
 symbology-of-spec =
-    tie.close
-    (tie.spec
-    returns
-    shared-slice-read-a
-    returns-2
-    returns-3
-    returns-4
-    returns-5
-    returns-6
-    returns-7)
+    tie.close (tie.spec returns (λ c. search needs) returns-2 returns-3 returns-4 returns-5 returns-6 returns-7)

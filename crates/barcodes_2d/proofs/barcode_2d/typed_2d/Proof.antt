@@ -8,27 +8,6 @@ use borrow.Author.Needs.{needs}
 use Rattle.barcodes_2d.proofs.barcode_2d.typed_2d.Statement.{statement}
 use Rattle.barcodes_2d.proofs.barcode_2d.typed_2d.Tie as tie
 
-find-requires : tie.Need-find-requires
-find-requires c κs = search needs
-
-slice-aggregate-trim : tie.Need-slice-aggregate-trim
-slice-aggregate-trim c = simp length-take (omega arith)
-
-trim-requires : tie.Need-trim-requires
-trim-requires c κs = search needs
-
-symbology-of-requires : tie.Need-symbology-of-requires
-symbology-of-requires c κs = search needs
-
-add-rest-from : tie.Need-add-rest-from
-add-rest-from c = search needs
-
-rest-from-requires : tie.Need-rest-from-requires
-rest-from-requires c κs = search needs
-
-barcode-2d-at-requires : tie.Need-barcode-2d-at-requires
-barcode-2d-at-requires c κs = search needs
-
 returns : tie.Need-returns
 returns c =
     let t = c .before .before in
@@ -38,13 +17,7 @@ returns c =
 
 pub typed-2d-spec : {M : Type 1} → statement M
 typed-2d-spec =
-    tie.close
-    (tie.spec
-    find-requires
-    slice-aggregate-trim
-    trim-requires
-    symbology-of-requires
-    add-rest-from
-    rest-from-requires
-    barcode-2d-at-requires
+    tie.close (tie.spec (λ c κs. search needs)
+    (λ c. simp length-take (omega arith)) (λ c κs. search needs) (λ c κs. search needs) (λ c. search needs)
+    (λ c κs. search needs) (λ c κs. search needs)
     returns)

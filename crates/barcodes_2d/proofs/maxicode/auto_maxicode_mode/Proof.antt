@@ -12,17 +12,11 @@ use Rattle.barcodes_2d.proofs.MaxicodeLaws.{place-le, mode-none, mode-e
 use Rattle.barcodes_2d.proofs.maxicode.auto_maxicode_mode.Statement.{statement}
 use Rattle.barcodes_2d.proofs.maxicode.auto_maxicode_mode.Tie as tie
 
-header-place-requires : tie.Need-header-place-requires
-header-place-requires c κs = search needs
-
 returns : tie.Need-returns
 returns c = let p = c .before in sym (mode-none (p .before .before .args .«data» .now) (p .header-place .ensures) (c .if1 .taken))
 
 slice-aggregate-decoded-len : tie.Need-slice-aggregate-decoded-len
 slice-aggregate-decoded-len c = simp length-take (omega (arith, place-le (c .before .before .before .before .args .«data» .now)))
-
-decoded-len-requires : tie.Need-decoded-len-requires
-decoded-len-requires c κs = search needs
 
 returns-2 : tie.Need-returns-2
 returns-2 c =
@@ -33,31 +27,15 @@ returns-2 c =
 slice-aggregate-is-postal : tie.Need-slice-aggregate-is-postal
 slice-aggregate-is-postal c = simp length-take (omega (arith, place-le (c .before .before .before .before .before .before .before .args .«data» .now)))
 
-is-postal-requires : tie.Need-is-postal-requires
-is-postal-requires c κs = search needs
-
 late : (c : tie.After-is-postal) → autoMode (decode (c .before .before .before .before .before .before .before .before .args .«data» .now)) ≡ cond (c .is-postal .result) (pos 2) (pos 3)
 late c =
     let n = c .before .before .before in
     let p = n .before .before .before in
     mode-late (p .before .before .args .«data» .now) (p .header-place .ensures) (n .before .before .if1 .left) (n .decoded-len .ensures) (c .before .before .if2 .left) (c .is-postal .ensures)
 
-returns-3 : tie.Need-returns-3
-returns-3 c = sym (late (c .before) ∙ simp (c .if3 .taken))
-
-returns-4 : tie.Need-returns-4
-returns-4 c = sym (late (c .before) ∙ simp (c .if3 .left))
-
 pub auto-maxicode-mode-spec : {M : Type 1} → statement M
 auto-maxicode-mode-spec =
-    tie.close
-    (tie.spec
-    header-place-requires
-    returns
-    slice-aggregate-decoded-len
-    decoded-len-requires
-    returns-2
-    slice-aggregate-is-postal
-    is-postal-requires
-    returns-3
-    returns-4)
+    tie.close (tie.spec (λ c κs. search needs)
+    returns slice-aggregate-decoded-len (λ c κs. search needs)
+    returns-2 slice-aggregate-is-postal (λ c κs. search needs)
+    (λ c. sym (late (c .before) ∙ simp (c .if3 .taken))) (λ c. sym (late (c .before) ∙ simp (c .if3 .left))))

@@ -8,7 +8,7 @@ use lib.ListN.{length, drop}
 use borrow.Author.Needs.{needs}
 use borrow.Author.Tests.{not-true, not-false}
 use Rattle.barcodes_2d.specs.Maxicode.{headerPlace}
-use Rattle.barcodes_2d.proofs.MaxicodeLaws.{place-next, place-end}
+use Rattle.barcodes_2d.proofs.MaxicodeLaws.{place-step, place-end}
 use Rattle.barcodes_2d.proofs.maxicode.header_place.Statement.{statement}
 use Rattle.barcodes_2d.proofs.maxicode.header_place.Tie as tie
 
@@ -18,39 +18,18 @@ Inv-loop s i₀ i = (i ≤ length s) × (headerPlace s ≡ i + headerPlace (drop
 abbrev μ-loop : tie.MeasureT-loop
 μ-loop s i₀ i = length s - i
 
-loop-holds : tie.Need-loop-holds Inv-loop μ-loop
-loop-holds c = search needs
-
-sub-header-at : tie.Need-sub-header-at Inv-loop μ-loop
-sub-header-at c = search needs
-
-part-header-at-start : tie.Need-part-header-at-start Inv-loop μ-loop
-part-header-at-start c = search needs
-
-part-header-at-end : tie.Need-part-header-at-end Inv-loop μ-loop
-part-header-at-end c = search needs
-
-header-at-requires : tie.Need-header-at-requires Inv-loop μ-loop
-header-at-requires c κs = search needs
-
-add-i : tie.Need-add-i Inv-loop μ-loop
-add-i c = search needs
-
-loop-less : tie.Need-loop-less Inv-loop μ-loop
-loop-less c = search needs
-
 loop-again : tie.Need-loop-again Inv-loop μ-loop
 loop-again c =
     let l = c .before .before .before .before in
     let e = sym (c .before .header-at .ensures) ∙ not-true (c .before .header-at .result) (c .if1 .taken) in
-    let n = simp e at (place-next (l .before .before .args .s .now) (l .loop .i) (c .before .before .before .loop-test .taken)) in
+    let n = simp e at (place-step (l .before .before .args .s .now) (l .loop .i) (c .before .before .before .loop-test .taken)) in
     (search needs, omega (arith, n))
 
 returns : tie.Need-returns Inv-loop μ-loop
 returns c =
     let l = c .before .before .before .before in
     let e = sym (c .before .header-at .ensures) ∙ not-false (c .before .header-at .result) (c .if1 .left) in
-    let n = simp e at (place-next (l .before .before .args .s .now) (l .loop .i) (c .before .before .before .loop-test .taken)) in
+    let n = simp e at (place-step (l .before .before .args .s .now) (l .loop .i) (c .before .before .before .loop-test .taken)) in
     omega (arith, n)
 
 returns-2 : tie.Need-returns-2 Inv-loop μ-loop
@@ -58,17 +37,6 @@ returns-2 c = omega (arith, place-end (c .before .before .before .args .s .now) 
 
 pub header-place-spec : {M : Type 1} → statement M
 header-place-spec =
-    tie.close
-    (tie.spec
-    Inv-loop
-    μ-loop
-    loop-holds
-    sub-header-at
-    part-header-at-start
-    part-header-at-end
-    header-at-requires
-    add-i
-    loop-less
-    loop-again
-    returns
-    returns-2)
+    tie.close (tie.spec Inv-loop μ-loop (λ c. search needs) (λ c. search needs) (λ c. search needs) (λ c. search needs)
+    (λ c κs. search needs) (λ c. search needs) (λ c. search needs)
+    loop-again returns returns-2)

@@ -22,21 +22,6 @@ abbrev μ-loop : tie.MeasureT-loop
 loop-holds : tie.Need-loop-holds Inv-loop μ-loop
 loop-holds c = (search needs, postal-is (decode (c .before .args .s .now)))
 
-part-len-requires : tie.Need-part-len-requires Inv-loop μ-loop
-part-len-requires c κs = search needs
-
-slice-aggregate-shown-len : tie.Need-slice-aggregate-shown-len Inv-loop μ-loop
-slice-aggregate-shown-len c = simp length-take (omega arith)
-
-shown-len-requires : tie.Need-shown-len-requires Inv-loop μ-loop
-shown-len-requires c κs = search needs
-
-shared-slice-read-is-digit : tie.Need-shared-slice-read-is-digit Inv-loop μ-loop
-shared-slice-read-is-digit c = search needs
-
-is-digit-requires : tie.Need-is-digit-requires Inv-loop μ-loop
-is-digit-requires c κs = search needs
-
 returns : tie.Need-returns Inv-loop μ-loop
 returns c =
     let d = c .before in
@@ -45,15 +30,6 @@ returns c =
     let l = k .before .before in
     let e = sym (d .is-digit .ensures) ∙ not-true (d .is-digit .result) (c .if2 .taken) in
     sym (l .loop .inv .1 ∙ postal-part (l .loop .skip) (l .loop .some) (l .loop .t .now) (k .before .loop-test .taken) (k .part-len .ensures) (m .shown-len .ensures) (d .before .before .if1 .left) ∙ simp e)
-
-sub-t : tie.Need-sub-t Inv-loop μ-loop
-sub-t c = search needs
-
-part-t-start : tie.Need-part-t-start Inv-loop μ-loop
-part-t-start c = search needs
-
-part-t-end : tie.Need-part-t-end Inv-loop μ-loop
-part-t-end c = search needs
 
 loop-less : tie.Need-loop-less Inv-loop μ-loop
 loop-less c =
@@ -79,20 +55,7 @@ returns-2 c = let l = c .before in sym (l .loop .inv .1 ∙ postal-end (l .loop 
 
 pub is-postal-spec : {M : Type 1} → statement M
 is-postal-spec =
-    tie.close
-    (tie.spec
-    Inv-loop
-    μ-loop
-    loop-holds
-    part-len-requires
-    slice-aggregate-shown-len
-    shown-len-requires
-    shared-slice-read-is-digit
-    is-digit-requires
-    returns
-    sub-t
-    part-t-start
-    part-t-end
-    loop-less
-    loop-again
-    returns-2)
+    tie.close (tie.spec Inv-loop μ-loop loop-holds (λ c κs. search needs)
+    (λ c. simp length-take (omega arith)) (λ c κs. search needs) (λ c. search needs) (λ c κs. search needs)
+    returns (λ c. search needs) (λ c. search needs) (λ c. search needs)
+    loop-less loop-again returns-2)

@@ -9,12 +9,6 @@ use Rattle.numbers.specs.Int.{minZ}
 use Rattle.barcodes_2d.proofs.options.clamp.Statement.{statement}
 use Rattle.barcodes_2d.proofs.options.clamp.Tie as tie
 
-max-requires : tie.Need-max-requires
-max-requires c κs = search needs
-
-min-requires : tie.Need-min-requires
-min-requires c κs = search needs
-
 returns : tie.Need-returns
 returns c =
     let m = c .before .max in
@@ -24,4 +18,4 @@ returns c =
     ∙ ap (λ (z : ℤ). minZ z (s .args .hi)) (simp (toZ-ofZ (s .fits .v), toZ-ofZ (s .fits .lo)) at (m .ensures))
 
 pub clamp-spec : {M : Type 1} → statement M
-clamp-spec = tie.close (tie.spec max-requires min-requires returns)
+clamp-spec = tie.close (tie.spec (λ c κs. search needs) (λ c κs. search needs) returns)

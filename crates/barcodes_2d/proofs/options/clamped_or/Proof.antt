@@ -14,24 +14,6 @@ use Rattle.barcodes_2d.proofs.options.clamped_or.Tie as tie
 by : (d : tie.After-told) (q : Number) → d .told .result ≡ q → let a = d .before .args in clampedOr (a .default) (a .lo) (a .hi) q ≡ clampedOr (a .default) (a .lo) (a .hi) (numberOf (a .n))
 by d q e = let a = d .before .args in ap (clampedOr (a .default) (a .lo) (a .hi)) (sym e ∙ d .told .ensures)
 
-told-requires : tie.Need-told-requires
-told-requires c κs = search needs
-
-enum-known-v : tie.Need-enum-known-v
-enum-known-v c = search needs
-
-clamp-requires : tie.Need-clamp-requires
-clamp-requires c κs = search needs
-
-enum-told : tie.Need-enum-told
-enum-told c = search needs
-
-enum-told-2 : tie.Need-enum-told-2
-enum-told-2 c = search needs
-
-enum-told-3 : tie.Need-enum-told-3
-enum-told-3 c = search needs
-
 returns : tie.Need-returns
 returns c =
     let n = c .before .before .v in
@@ -52,4 +34,6 @@ returns-4 c = let d = c .before .before in toZ-ofZ (d .before .fits .default) �
 pub clamped-or-spec : {M : Type 1} → statement M
 clamped-or-spec =
     tie.close
-    (tie.spec told-requires enum-known-v clamp-requires enum-told enum-told-2 enum-told-3 returns returns-2 returns-3 returns-4)
+    (tie.spec (λ c κs. search needs) (λ c. search needs) (λ c κs. search needs) (λ c. search needs) (λ c. search needs)
+    (λ c. search needs)
+    returns returns-2 returns-3 returns-4)

@@ -4,12 +4,10 @@
 use mathlib.Core.Path.{_≡_, sym, _∙_}
 use mathlib.Core.Bool.{true}
 use mathlib.Core.Logic.{⊎-elim}
-use mathlib.Core.List.{[]}
 use Prim.Native.Nat.{_-_, _≤_}
 use native.Mathlib.Omega.{arith}
-use lib.ListN.{length, getD, drop}
+use lib.ListN.{length, getD}
 use borrow.Author.Needs.{needs}
-use Rattle.text.specs.Blank.{front}
 use Rattle.text.specs.Class.{isDigit}
 use Rattle.text.proofs.BoolLaws.{within-low, within-high}
 use Rattle.barcodes_2d.proofs.OptionsLaws.{Ran, ran-first, ran-digit, ran-value, ran-alone, ran-more, front-stop, front-end}
@@ -34,49 +32,19 @@ at-loop d = d .before .before .before .before
 digit : (d : tie.Then1 Inv-loop μ-loop) → isDigit (getD (at-loop d .before .before .before .args .s .now) (at-loop d .loop .end) 0) ≡ true
 digit d = sym (d .before .is-digit .ensures) ∙ d .if1 .taken
 
-shared-slice-read-first : tie.Need-shared-slice-read-first Inv-loop μ-loop
-shared-slice-read-first c = search needs
-
-sub-v : tie.Need-sub-v Inv-loop μ-loop
-sub-v c = low (c .before .before)
-
 cast-v : tie.Need-cast-v Inv-loop μ-loop
 cast-v c = record { fits = omega (arith, high (c .before .before)) }
-
-add-end : tie.Need-add-end Inv-loop μ-loop
-add-end c = search needs
 
 loop-holds : tie.Need-loop-holds Inv-loop μ-loop
 loop-holds c = let s = c .before .before in ran-first (s .args .s .now) (s .args .from) (s .pre .0) (s .pre .1)
 
-shared-slice-read-is-digit : tie.Need-shared-slice-read-is-digit Inv-loop μ-loop
-shared-slice-read-is-digit c = search needs
-
-is-digit-requires : tie.Need-is-digit-requires Inv-loop μ-loop
-is-digit-requires c κs = search needs
-
-shared-slice-read-with-digit : tie.Need-shared-slice-read-with-digit Inv-loop μ-loop
-shared-slice-read-with-digit c = search needs
-
 with-digit-requires : tie.Need-with-digit-requires Inv-loop μ-loop
 with-digit-requires c κs = (at-loop (c .before) .loop .inv .small, digit (c .before))
-
-add-end-2 : tie.Need-add-end-2 Inv-loop μ-loop
-add-end-2 c = search needs
-
-loop-less : tie.Need-loop-less Inv-loop μ-loop
-loop-less c = search needs
 
 loop-again : tie.Need-loop-again Inv-loop μ-loop
 loop-again c =
     let l = at-loop (c .before .before) in
     rw (c .with-digit .ensures) (ran-digit (l .before .before .before .args .s .now) (l .loop .end) (search needs) (digit (c .before .before)) (l .before .before .before .args .from) (l .loop .v) (l .loop .inv))
-
-add-if2 : tie.Need-add-if2 Inv-loop μ-loop
-add-if2 c = search needs
-
-cast-t19 : tie.Need-cast-t19 Inv-loop μ-loop
-cast-t19 c = record { fits = omega (arith, c .before .before .loop .inv .small) }
 
 returns : tie.Need-returns Inv-loop μ-loop
 returns c =
@@ -89,22 +57,9 @@ returns c =
 
 pub digits-from-spec : {M : Type 1} → statement M
 digits-from-spec =
-    tie.close
-    (tie.spec
-    Inv-loop
-    μ-loop
-    shared-slice-read-first
-    sub-v
-    cast-v
-    add-end
-    loop-holds
-    shared-slice-read-is-digit
-    is-digit-requires
-    shared-slice-read-with-digit
-    with-digit-requires
-    add-end-2
-    loop-less
-    loop-again
-    add-if2
-    cast-t19
+    tie.close (tie.spec Inv-loop μ-loop (λ c. search needs)
+    (λ c. low (c .before .before)) cast-v (λ c. search needs)
+    loop-holds (λ c. search needs) (λ c κs. search needs) (λ c. search needs)
+    with-digit-requires (λ c. search needs) (λ c. search needs)
+    loop-again (λ c. search needs) (λ c. search needs)
     returns)

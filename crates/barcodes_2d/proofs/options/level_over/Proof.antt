@@ -3,11 +3,5 @@
 use Rattle.barcodes_2d.proofs.options.level_over.Statement.{statement}
 use Rattle.barcodes_2d.proofs.options.level_over.Tie as tie
 
-returns : tie.Need-returns
-returns c = simp (c .if1 .taken)
-
-returns-2 : tie.Need-returns-2
-returns-2 c = simp (c .if1 .left)
-
 pub level-over-spec : {M : Type 1} → statement M
-level-over-spec = tie.close (tie.spec returns returns-2)
+level-over-spec = tie.close (tie.spec (λ c. simp (c .if1 .taken)) (λ c. simp (c .if1 .left)))

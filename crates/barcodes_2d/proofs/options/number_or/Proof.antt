@@ -8,12 +8,6 @@ use Rattle.numbers.specs.Number.{numberOr}
 use Rattle.barcodes_2d.proofs.options.number_or.Statement.{statement}
 use Rattle.barcodes_2d.proofs.options.number_or.Tie as tie
 
-told-requires : tie.Need-told-requires
-told-requires c κs = search needs
-
-or-default-requires : tie.Need-or-default-requires
-or-default-requires c κs = search needs
-
 returns : tie.Need-returns
 returns c =
     let t = c .before in
@@ -23,4 +17,4 @@ returns c =
     ∙ ap (numberOr (s .args .default)) (t .told .ensures)
 
 pub number-or-spec : {M : Type 1} → statement M
-number-or-spec = tie.close (tie.spec told-requires or-default-requires returns)
+number-or-spec = tie.close (tie.spec (λ c κs. search needs) (λ c κs. search needs) returns)

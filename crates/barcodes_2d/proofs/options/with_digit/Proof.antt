@@ -4,21 +4,12 @@ use Prim.Native.Nat.{_+_, _-_, _*_}
 use native.Mathlib.Omega.{arith}
 use borrow.Author.Needs.{needs}
 use borrow.Author.Tests.{lt-ltb, le-ltb}
-use Rattle.text.proofs.BoolLaws.{within-low, within-high}
+use Rattle.text.proofs.BoolLaws.{within-low}
 use Rattle.barcodes_2d.proofs.options.with_digit.Statement.{statement}
 use Rattle.barcodes_2d.proofs.options.with_digit.Tie as tie
 
-mul-w : tie.Need-mul-w
-mul-w c = search needs
-
 sub-w : tie.Need-sub-w
 sub-w c = omega (arith, within-low 48 57 (c .args .b) (c .pre .1))
-
-cast-w : tie.Need-cast-w
-cast-w c = search needs
-
-add-w : tie.Need-add-w
-add-w c = search needs
 
 returns : tie.Need-returns
 returns c = simp (lt-ltb (c .before .args .v * 10 + (c .before .args .b - 48)) 2147483648 (c .if1 .taken))
@@ -27,4 +18,5 @@ returns-2 : tie.Need-returns-2
 returns-2 c = simp (le-ltb (c .before .args .v * 10 + (c .before .args .b - 48)) 2147483648 (c .if1 .left))
 
 pub with-digit-spec : {M : Type 1} → statement M
-with-digit-spec = tie.close (tie.spec mul-w sub-w cast-w add-w returns returns-2)
+with-digit-spec =
+    tie.close (tie.spec (λ c. search needs) sub-w (λ c. search needs) (λ c. search needs) returns returns-2)

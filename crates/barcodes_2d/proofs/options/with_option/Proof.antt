@@ -6,33 +6,6 @@ use borrow.Author.Tests.{ne-eqb}
 use Rattle.barcodes_2d.proofs.options.with_option.Statement.{statement}
 use Rattle.barcodes_2d.proofs.options.with_option.Tie as tie
 
-number-over-requires : tie.Need-number-over-requires
-number-over-requires c κs = search needs
-
-number-over-requires-2 : tie.Need-number-over-requires-2
-number-over-requires-2 c κs = search needs
-
-level-over-requires : tie.Need-level-over-requires
-level-over-requires c κs = search needs
-
-number-over-requires-3 : tie.Need-number-over-requires-3
-number-over-requires-3 c κs = search needs
-
-number-over-requires-4 : tie.Need-number-over-requires-4
-number-over-requires-4 c κs = search needs
-
-number-over-requires-5 : tie.Need-number-over-requires-5
-number-over-requires-5 c κs = search needs
-
-number-over-requires-6 : tie.Need-number-over-requires-6
-number-over-requires-6 c κs = search needs
-
-number-over-requires-7 : tie.Need-number-over-requires-7
-number-over-requires-7 c κs = search needs
-
-returns : tie.Need-returns
-returns c = rw (c .match .keys1) refl
-
 returns-2 : tie.Need-returns-2
 returns-2 c = rw (c .before .match .keys2, c .number-over .ensures) refl
 
@@ -42,23 +15,11 @@ returns-3 c = rw (c .before .before .match .keys3, c .before .number-over2 .ensu
 returns-4 : tie.Need-returns-4
 returns-4 c = rw (c .before .match .keys4, c .number-over3 .ensures) refl
 
-returns-5 : tie.Need-returns-5
-returns-5 c = rw (c .match .keys5) refl
-
-returns-6 : tie.Need-returns-6
-returns-6 c = rw (c .match .keys6) refl
-
 returns-7 : tie.Need-returns-7
 returns-7 c = rw (c .before .match .keys7, c .number-over4 .ensures) refl
 
-returns-8 : tie.Need-returns-8
-returns-8 c = rw (c .match .keys8) refl
-
 returns-9 : tie.Need-returns-9
 returns-9 c = rw (c .before .match .keys9, c .number-over5 .ensures) refl
-
-returns-10 : tie.Need-returns-10
-returns-10 c = rw (c .match .keys10) refl
 
 returns-11 : tie.Need-returns-11
 returns-11 c = rw (c .before .match .keys11, c .number-over6 .ensures) refl
@@ -74,26 +35,9 @@ returns-13 c =
 
 pub with-option-spec : {M : Type 1} → statement M
 with-option-spec =
-    tie.close
-    (tie.spec
-    number-over-requires
-    number-over-requires-2
-    level-over-requires
-    number-over-requires-3
-    number-over-requires-4
-    number-over-requires-5
-    number-over-requires-6
-    number-over-requires-7
-    returns
-    returns-2
-    returns-3
-    returns-4
-    returns-5
-    returns-6
-    returns-7
-    returns-8
-    returns-9
-    returns-10
-    returns-11
-    returns-12
-    returns-13)
+    tie.close (tie.spec
+    (λ c κs. search needs) (λ c κs. search needs) (λ c κs. search needs) (λ c κs. search needs) (λ c κs. search needs)
+    (λ c κs. search needs) (λ c κs. search needs) (λ c κs. search needs)
+    (λ c. rw (c .match .keys1) refl) returns-2 returns-3 returns-4 (λ c. rw (c .match .keys5) refl)
+    (λ c. rw (c .match .keys6) refl) returns-7 (λ c. rw (c .match .keys8) refl) returns-9
+    (λ c. rw (c .match .keys10) refl) returns-11 returns-12 returns-13)

@@ -20,30 +20,15 @@ abbrev μ-loop : tie.MeasureT-loop
 loop-holds : tie.Need-loop-holds Inv-loop μ-loop
 loop-holds c = (search needs, cc (take-length (c .args .s .now)))
 
-sub-n : tie.Need-sub-n Inv-loop μ-loop
-sub-n c = search needs
-
-shared-slice-read-if1 : tie.Need-shared-slice-read-if1 Inv-loop μ-loop
-shared-slice-read-if1 c = search needs
-
-slice-aggregate-result : tie.Need-slice-aggregate-result Inv-loop μ-loop
-slice-aggregate-result c = simp length-take (omega arith)
-
 returns : tie.Need-returns Inv-loop μ-loop
 returns c =
     let l = c .before .before .before .before in
     sym (l .loop .inv .1 ∙ last-here (l .before .args .b) (l .before .args .s .now) (l .loop .n) (search needs) (search needs) (c .before .if1 .taken))
 
-loop-less : tie.Need-loop-less Inv-loop μ-loop
-loop-less c = search needs
-
 loop-again : tie.Need-loop-again Inv-loop μ-loop
 loop-again c =
     let l = c .before .before .before in
     (search needs, l .loop .inv .1 ∙ last-skip (l .before .args .b) (l .before .args .s .now) (l .loop .n) (search needs) (search needs) (c .if1 .left))
-
-slice-aggregate-result-2 : tie.Need-slice-aggregate-result-2 Inv-loop μ-loop
-slice-aggregate-result-2 c = search needs
 
 returns-2 : tie.Need-returns-2 Inv-loop μ-loop
 returns-2 c =
@@ -52,16 +37,7 @@ returns-2 c =
 
 pub before-last-spec : {M : Type 1} → statement M
 before-last-spec =
-    tie.close
-    (tie.spec
-    Inv-loop
-    μ-loop
-    loop-holds
-    sub-n
-    shared-slice-read-if1
-    slice-aggregate-result
-    returns
-    loop-less
-    loop-again
-    slice-aggregate-result-2
+    tie.close (tie.spec Inv-loop μ-loop loop-holds (λ c. search needs) (λ c. search needs)
+    (λ c. simp length-take (omega arith)) returns (λ c. search needs)
+    loop-again (λ c. search needs)
     returns-2)

@@ -29,25 +29,10 @@ abbrev μ-loop : tie.MeasureT-loop
 loop-holds : tie.Need-loop-holds Inv-loop μ-loop
 loop-holds c = (search needs, cc (take-length (c .args .s .now)))
 
-sub-if1 : tie.Need-sub-if1 Inv-loop μ-loop
-sub-if1 c = search needs
-
-shared-slice-read-if1 : tie.Need-shared-slice-read-if1 Inv-loop μ-loop
-shared-slice-read-if1 c = search needs
-
-sub-n : tie.Need-sub-n Inv-loop μ-loop
-sub-n c = search needs
-
-loop-less : tie.Need-loop-less Inv-loop μ-loop
-loop-less c = search needs
-
 loop-again : tie.Need-loop-again Inv-loop μ-loop
 loop-again c =
     let l = c .before .before .before in
     (search needs, l .loop .inv .1 ∙ back-skip comma (l .before .args .s .now) (l .loop .n) (search needs) (search needs) (c .if1 .taken))
-
-slice-aggregate-result : tie.Need-slice-aggregate-result Inv-loop μ-loop
-slice-aggregate-result c = simp length-take (omega arith)
 
 returns : tie.Need-returns Inv-loop μ-loop
 unfolding withoutTrailingCommas
@@ -62,14 +47,5 @@ returns c =
 pub without-trailing-commas-spec : {M : Type 1} → statement M
 without-trailing-commas-spec =
     tie.close
-    (tie.spec
-    Inv-loop
-    μ-loop
-    loop-holds
-    sub-if1
-    shared-slice-read-if1
-    sub-n
-    loop-less
-    loop-again
-    slice-aggregate-result
-    returns)
+    (tie.spec Inv-loop μ-loop loop-holds (λ c. search needs) (λ c. search needs) (λ c. search needs) (λ c. search needs)
+    loop-again (λ c. simp length-take (omega arith)) returns)

@@ -5,11 +5,5 @@ use Rattle.text.proofs.ScanLaws.{first-found}
 use Rattle.bytes.proofs.scan.find.Statement.{statement}
 use Rattle.bytes.proofs.scan.find.Tie as tie
 
-scan-requires : tie.Need-scan-requires
-scan-requires c κs = search needs
-
-returns : tie.Need-returns
-returns c = first-found (c .scan .ensures)
-
 pub find-spec : {M : Type 1} → statement M
-find-spec = tie.close (tie.spec scan-requires returns)
+find-spec = tie.close (tie.spec (λ c κs. search needs) (λ c. first-found (c .scan .ensures)))

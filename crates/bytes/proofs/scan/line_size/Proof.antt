@@ -5,9 +5,6 @@ use borrow.Author.Needs.{needs}
 use Rattle.bytes.proofs.scan.line_size.Statement.{statement}
 use Rattle.bytes.proofs.scan.line_size.Tie as tie
 
-add-result : tie.Need-add-result
-add-result c = search needs
-
 returns : tie.Need-returns
 returns c = let a = c .before .args in simp (add-one, lt-ltb (a .n) (a .len) (c .if1 .taken))
 
@@ -15,4 +12,4 @@ returns-2 : tie.Need-returns-2
 returns-2 c = let a = c .before .args in simp (le-ltb (a .n) (a .len) (c .if1 .left))
 
 pub line-size-spec : {M : Type 1} → statement M
-line-size-spec = tie.close (tie.spec add-result returns returns-2)
+line-size-spec = tie.close (tie.spec (λ c. search needs) returns returns-2)

@@ -1,12 +1,12 @@
 -- `crate::scan::near` meets its contract. Invariant: eights are passed, and no b stands before i. Measure: 96 less i.
 -- Assumes nothing.
-use mathlib.Core.Path.{_≡_, refl}
+use mathlib.Core.Path.{_≡_}
 use Prim.Native.Nat.{_-_, _/_, _%_, _≤_, _<_}
 use native.Mathlib.Omega.{arith}
 use lib.Count.{trailingZeros}
 use borrow.Author.Needs.{needs}
 use Rattle.text.specs.Scan.{None}
-use Rattle.text.proofs.ScanLaws.{none-empty, none-join, near-short, near-first}
+use Rattle.text.proofs.ScanLaws.{none-join, near-short, near-first}
 use Rattle.text.proofs.WordLaws.{mark-near, mark-first, mark-none}
 use Rattle.bytes.proofs.scan.near.Statement.{statement}
 use Rattle.bytes.proofs.scan.near.Tie as tie
@@ -20,24 +20,12 @@ abbrev μ-loop : tie.MeasureT-loop
 returns : tie.Need-returns Inv-loop μ-loop
 returns c = near-short (c .before .before .args .a .now) (c .before .before .args .b) (c .if1 .taken)
 
-loop-holds : tie.Need-loop-holds Inv-loop μ-loop
-loop-holds c = (omega arith, refl, none-empty (omega arith))
-
-sub-loop : tie.Need-sub-loop Inv-loop μ-loop
-sub-loop c = search needs
-
-marks-requires : tie.Need-marks-requires Inv-loop μ-loop
-marks-requires c κs = search needs
-
 -- the first b is among these eight
 near : (c : tie.Then2 Inv-loop μ-loop) → trailingZeros 64 (c .before .marks .result) / 8 < 8
-near c = mark-near (c .before .before .before .before .before .before .args .a .now) (c .before .before .before .before .before .before .args .b) (c .before .before .before .loop .i) (c .before .marks .ensures) (c .if2 .taken)
-
-cast-result : tie.Need-cast-result Inv-loop μ-loop
-cast-result c = let h = near c in record { fits = omega arith }
-
-add-result : tie.Need-add-result Inv-loop μ-loop
-add-result c = let h = near c in record { fits = omega arith }
+near c =
+    let l = c .before .before .before in
+    let s = l .before .before .before .args in
+    mark-near (s .a .now) (s .b) (l .loop .i) (c .before .marks .ensures) (c .if2 .taken)
 
 returns-2 : tie.Need-returns-2 Inv-loop μ-loop
 returns-2 c =
@@ -46,12 +34,6 @@ returns-2 c =
     let h = near c in
     let f = mark-first (s .a .now) (s .b) (l .loop .i) (c .before .marks .ensures) in
     near-first (omega arith) (record { low = omega arith; high = omega arith; before = none-join (l .loop .inv .2) (f .before); found = λ q. f .found (omega arith) })
-
-add-i : tie.Need-add-i Inv-loop μ-loop
-add-i c = search needs
-
-loop-less : tie.Need-loop-less Inv-loop μ-loop
-loop-less c = search needs
 
 loop-again : tie.Need-loop-again Inv-loop μ-loop
 loop-again c =
@@ -67,18 +49,7 @@ returns-3 c =
 
 pub near-spec : {M : Type 1} → statement M
 near-spec =
-    tie.close
-    (tie.spec
-    Inv-loop
-    μ-loop
-    returns
-    loop-holds
-    sub-loop
-    marks-requires
-    cast-result
-    add-result
-    returns-2
-    add-i
-    loop-less
-    loop-again
-    returns-3)
+    tie.close (tie.spec Inv-loop μ-loop returns (λ c. search needs) (λ c. search needs) (λ c κs. search needs)
+    (λ c. let h = near c in record { fits = omega arith }) (λ c. let h = near c in record { fits = omega arith })
+    returns-2 (λ c. search needs) (λ c. search needs)
+    loop-again returns-3)

@@ -8,14 +8,8 @@ use Rattle.bytes.proofs.utf8.is_whole.Tie as tie
 returns : tie.Need-returns
 returns c = whole-nil (c .before .before .args .p .now) (c .if1 .taken)
 
-shared-slice-read-need : tie.Need-shared-slice-read-need
-shared-slice-read-need c = search needs
-
-need-requires : tie.Need-need-requires
-need-requires c κs = search needs
-
 returns-2 : tie.Need-returns-2
 returns-2 c = whole-is (c .before .before .before .before .args .p .now) _ (c .before .before .if1 .left) (c .need .ensures)
 
 pub is-whole-spec : {M : Type 1} → statement M
-is-whole-spec = tie.close (tie.spec returns shared-slice-read-need need-requires returns-2)
+is-whole-spec = tie.close (tie.spec returns (λ c. search needs) (λ c κs. search needs) returns-2)

@@ -3,7 +3,7 @@
 use mathlib.Core.Path.{sym, _∙_}
 use borrow.Author.Tests.{lt-ltb, le-ltb}
 use borrow.Author.Needs.{needs}
-use Rattle.text.specs.Utf8.{need, within}
+use Rattle.text.specs.Utf8.{need}
 use Rattle.bytes.proofs.utf8.need.Statement.{statement}
 use Rattle.bytes.proofs.utf8.need.Tie as tie
 
@@ -11,24 +11,15 @@ returns : tie.Need-returns
 unfolding need
 returns c = simp (lt-ltb _ _ (c .if1 .taken))
 
-within-requires : tie.Need-within-requires
-within-requires c κs = search needs
-
 returns-2 : tie.Need-returns-2
 unfolding need
 returns-2 c = simp (le-ltb _ _ (c .before .before .if1 .left), sym (c .before .within .ensures) ∙ c .if2 .taken)
-
-within-requires-2 : tie.Need-within-requires-2
-within-requires-2 c κs = search needs
 
 returns-3 : tie.Need-returns-3
 unfolding need
 returns-3 c =
     let w = c .before .before in
     simp (le-ltb _ _ (w .before .before .if1 .left), sym (w .before .within .ensures) ∙ w .if2 .left, sym (c .before .within2 .ensures) ∙ c .if3 .taken)
-
-within-requires-3 : tie.Need-within-requires-3
-within-requires-3 c κs = search needs
 
 returns-4 : tie.Need-returns-4
 unfolding need
@@ -46,13 +37,7 @@ returns-5 c =
 
 pub need-spec : {M : Type 1} → statement M
 need-spec =
-    tie.close
-    (tie.spec
-    returns
-    within-requires
-    returns-2
-    within-requires-2
-    returns-3
-    within-requires-3
-    returns-4
-    returns-5)
+    tie.close (tie.spec returns (λ c κs. search needs)
+    returns-2 (λ c κs. search needs)
+    returns-3 (λ c κs. search needs)
+    returns-4 returns-5)

@@ -1,43 +1,31 @@
 -- `crate::utf8::put_part` meets its contract.
 -- Assumes nothing.
-use mathlib.Core.Path.{sym, ap, _∙_}
+use mathlib.Core.Path.{_≡_, sym, ap, _∙_}
+use mathlib.Core.List.{List}
+use Prim.Native.Nat.{ℕ}
 use native.Mathlib.Omega.{arith}
 use lib.ListN.{length}
 use borrow.Author.Needs.{needs}
+use Rattle.text.specs.Utf8.{shown, replacement}
 use Rattle.text.proofs.WroteLaws.{wrote-as}
 use Rattle.text.proofs.Utf8Steps.{shown-whole, shown-part}
 use Rattle.bytes.proofs.utf8.put_part.Statement.{statement}
 use Rattle.bytes.proofs.utf8.put_part.Tie as tie
 
-is-whole-requires : tie.Need-is-whole-requires
-is-whole-requires c κs = search needs
+-- what is shown for the part, in each arm
+abbrev text : tie.After-is-whole → List ℕ
+text d = d .before .before .before .args .p .now
 
-put-bytes-requires : tie.Need-put-bytes-requires
-put-bytes-requires c κs = let e = ap length (shown-whole (c .before .before .before .before .before .args .p .now) (sym (c .before .before .is-whole .ensures) ∙ c .before .if1 .taken)) in omega arith
+itself : (d : tie.Then1) → shown (text (d .before)) ≡ text (d .before)
+itself d = shown-whole (text (d .before)) (sym (d .before .is-whole .ensures) ∙ d .if1 .taken)
 
-put-replacement-requires : tie.Need-put-replacement-requires
-put-replacement-requires c κs = let e = ap length (shown-part (c .before .before .before .before .before .args .p .now) (sym (c .before .before .is-whole .ensures) ∙ c .before .if1 .left)) in omega arith
-
-same-length : tie.Need-same-length
-same-length c = search needs
-
-returns : tie.Need-returns
-returns c = wrote-as (shown-whole (c .before .before .before .before .before .before .before .before .args .p .now) (sym (c .before .before .before .before .before .is-whole .ensures) ∙ c .before .before .before .before .if1 .taken)) (c .before .before .put-bytes .ensures)
-
-same-length-2 : tie.Need-same-length-2
-same-length-2 c = search needs
-
-returns-2 : tie.Need-returns-2
-returns-2 c = wrote-as (shown-part (c .before .before .before .before .before .before .before .before .args .p .now) (sym (c .before .before .before .before .before .is-whole .ensures) ∙ c .before .before .before .before .if1 .left)) (c .before .before .put-replacement .ensures)
+replaced : (d : tie.Else1) → shown (text (d .before)) ≡ replacement
+replaced d = shown-part (text (d .before)) (sym (d .before .is-whole .ensures) ∙ d .if1 .left)
 
 pub put-part-spec : {M : Type 1} → statement M
 put-part-spec =
-    tie.close
-    (tie.spec
-    is-whole-requires
-    put-bytes-requires
-    put-replacement-requires
-    same-length
-    returns
-    same-length-2
-    returns-2)
+    tie.close (tie.spec (λ c κs. search needs)
+    (λ c κs. let e = ap length (itself (c .before)) in omega arith)
+    (λ c κs. let e = ap length (replaced (c .before)) in omega arith) (λ c. search needs)
+    (λ c. wrote-as (itself (c .before .before .before .before)) (c .before .before .put-bytes .ensures)) (λ c. search needs)
+    (λ c. wrote-as (replaced (c .before .before .before .before)) (c .before .before .put-replacement .ensures)))

@@ -8,35 +8,9 @@ use Rattle.text.proofs.WroteLaws.{wrote}
 use Rattle.bytes.proofs.utf8.put_replacement.Statement.{statement}
 use Rattle.bytes.proofs.utf8.put_replacement.Tie as tie
 
-slice-write-out : tie.Need-slice-write-out
-slice-write-out c = search needs
-
-add-out : tie.Need-add-out
-add-out c = search needs
-
-slice-write-out-2 : tie.Need-slice-write-out-2
-slice-write-out-2 c = simp length-set (omega arith)
-
-add-out-2 : tie.Need-add-out-2
-add-out-2 c = search needs
-
-slice-write-out-3 : tie.Need-slice-write-out-3
-slice-write-out-3 c = simp length-set (omega arith)
-
-same-length : tie.Need-same-length
-same-length c = search needs
-
-returns : tie.Need-returns
-returns c = wrote (simp (add-one, add-two))
-
 pub put-replacement-spec : {M : Type 1} → statement M
 put-replacement-spec =
-    tie.close
-    (tie.spec
-    slice-write-out
-    add-out
-    slice-write-out-2
-    add-out-2
-    slice-write-out-3
-    same-length
-    returns)
+    tie.close (tie.spec (λ c. search needs) (λ c. search needs)
+    (λ c. simp length-set (omega arith)) (λ c. search needs)
+    (λ c. simp length-set (omega arith)) (λ c. search needs)
+    (λ c. wrote (simp (add-one, add-two))))

@@ -5,14 +5,8 @@ use borrow.Author.Needs.{needs}
 use Rattle.bytes.proofs.utf8.shown_len.Statement.{statement}
 use Rattle.bytes.proofs.utf8.shown_len.Tie as tie
 
-is-whole-requires : tie.Need-is-whole-requires
-is-whole-requires c κs = search needs
-
 returns : tie.Need-returns
 returns c = simp (sym (c .before .is-whole .ensures) ∙ c .if1 .taken)
 
-returns-2 : tie.Need-returns-2
-returns-2 c = simp (sym (c .before .is-whole .ensures) ∙ c .if1 .left)
-
 pub shown-len-spec : {M : Type 1} → statement M
-shown-len-spec = tie.close (tie.spec is-whole-requires returns returns-2)
+shown-len-spec = tie.close (tie.spec (λ c κs. search needs) returns (λ c. search needs))

@@ -7,15 +7,6 @@ use Rattle.text.proofs.WordLaws.{rep, zeroMarks, word-marks}
 use Rattle.bytes.proofs.word.marks.Statement.{statement}
 use Rattle.bytes.proofs.word.marks.Tie as tie
 
-eight-requires : tie.Need-eight-requires
-eight-requires c κs = search needs
-
-wide-requires : tie.Need-wide-requires
-wide-requires c κs = search needs
-
-mul-x : tie.Need-mul-x
-mul-x c = search needs
-
 add-t : tie.Need-add-t
 add-t c = let h = and-le-r (bitXor (c .before .eight .result) (c .wide .result * 0x0101010101010101)) 0x7f7f7f7f7f7f7f7f in record { fits = omega arith }
 
@@ -24,4 +15,4 @@ unfolding zeroMarks rep
 returns c = word-marks (c .before .eight .ensures) (c .wide .ensures .0) (c .wide .ensures .1)
 
 pub marks-spec : {M : Type 1} → statement M
-marks-spec = tie.close (tie.spec eight-requires wide-requires mul-x add-t returns)
+marks-spec = tie.close (tie.spec (λ c κs. search needs) (λ c κs. search needs) (λ c. search needs) add-t returns)

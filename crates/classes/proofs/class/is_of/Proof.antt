@@ -20,23 +20,8 @@ told c =
 some : (x b : ℕ) → (x ≡ 0 → ⊥) → not (eqb (bitAnd (x / 2 ^ (4 * (b % 16))) 1) 0) ≡ placed x b
 some x b h = simp (ne-eqb x 0 h)
 
-row-requires : tie.Need-row-requires
-row-requires c κs = search needs
-
-shr-r : tie.Need-shr-r
-shr-r c = search needs
-
 returns : tie.Need-returns
 returns c = sym (ap (λ (x : ℕ). placed x (c .before .before .args .b)) (c .if1 .taken)) ∙ told (c .before)
-
-mul-result : tie.Need-mul-result
-mul-result c = search needs
-
-cast-result : tie.Need-cast-result
-cast-result c = search needs
-
-shr-result : tie.Need-shr-result
-shr-result c = search needs
 
 returns-2 : tie.Need-returns-2
 returns-2 c =
@@ -44,4 +29,7 @@ returns-2 c =
     some (bitAnd (c .before .row .result / 2 ^ a .k) 0x1111111111111111) (a .b) (c .if1 .left) ∙ told (c .before)
 
 pub is-of-spec : {M : Type 1} → statement M
-is-of-spec = tie.close (tie.spec row-requires shr-r returns mul-result cast-result shr-result returns-2)
+is-of-spec =
+    tie.close (tie.spec (λ c κs. search needs) (λ c. search needs)
+    returns (λ c. search needs) (λ c. search needs) (λ c. search needs)
+    returns-2)

@@ -33,54 +33,6 @@ last c =
     let a = up i 14 a (r .1) in
     omega arith
 
-array-read-result : tie.Need-array-read-result
-array-read-result c = search needs
-
-array-read-result-2 : tie.Need-array-read-result-2
-array-read-result-2 c = search needs
-
-array-read-result-3 : tie.Need-array-read-result-3
-array-read-result-3 c = search needs
-
-array-read-result-4 : tie.Need-array-read-result-4
-array-read-result-4 c = search needs
-
-array-read-result-5 : tie.Need-array-read-result-5
-array-read-result-5 c = search needs
-
-array-read-result-6 : tie.Need-array-read-result-6
-array-read-result-6 c = search needs
-
-array-read-result-7 : tie.Need-array-read-result-7
-array-read-result-7 c = search needs
-
-array-read-result-8 : tie.Need-array-read-result-8
-array-read-result-8 c = search needs
-
-array-read-result-9 : tie.Need-array-read-result-9
-array-read-result-9 c = search needs
-
-array-read-result-10 : tie.Need-array-read-result-10
-array-read-result-10 c = search needs
-
-array-read-result-11 : tie.Need-array-read-result-11
-array-read-result-11 c = search needs
-
-array-read-result-12 : tie.Need-array-read-result-12
-array-read-result-12 c = search needs
-
-array-read-result-13 : tie.Need-array-read-result-13
-array-read-result-13 c = search needs
-
-array-read-result-14 : tie.Need-array-read-result-14
-array-read-result-14 c = search needs
-
-array-read-result-15 : tie.Need-array-read-result-15
-array-read-result-15 c = search needs
-
-array-read-result-16 : tie.Need-array-read-result-16
-array-read-result-16 c = search needs
-
 returns : tie.Need-returns
 unfolding classOf rowFrom
 returns c = ap rowOf (sym (c .match .keys1))
@@ -148,36 +100,9 @@ returns-16 c = ap rowOf (sym (last c))
 pub row-spec : {M : Type 1} → statement M
 row-spec =
     tie.close
-    (tie.spec
-    array-read-result
-    array-read-result-2
-    array-read-result-3
-    array-read-result-4
-    array-read-result-5
-    array-read-result-6
-    array-read-result-7
-    array-read-result-8
-    array-read-result-9
-    array-read-result-10
-    array-read-result-11
-    array-read-result-12
-    array-read-result-13
-    array-read-result-14
-    array-read-result-15
-    array-read-result-16
-    returns
-    returns-2
-    returns-3
-    returns-4
-    returns-5
-    returns-6
-    returns-7
-    returns-8
-    returns-9
-    returns-10
-    returns-11
-    returns-12
-    returns-13
-    returns-14
-    returns-15
-    returns-16)
+    (tie.spec (λ c. search needs) (λ c. search needs) (λ c. search needs) (λ c. search needs) (λ c. search needs)
+    (λ c. search needs) (λ c. search needs) (λ c. search needs) (λ c. search needs) (λ c. search needs)
+    (λ c. search needs) (λ c. search needs) (λ c. search needs) (λ c. search needs) (λ c. search needs)
+    (λ c. search needs)
+    returns returns-2 returns-3 returns-4 returns-5 returns-6 returns-7 returns-8 returns-9 returns-10 returns-11
+    returns-12 returns-13 returns-14 returns-15 returns-16)

@@ -17,20 +17,8 @@ use Rattle.commands.proofs.line.read_line.Tie as tie
 off : (d : tie.After-trim-end) → d .trim-end .result .now ≡ trim (d .before .before .before .args .line .now)
 off d = d .trim-end .ensures ∙ ap trimEnd (d .before .trim-start .ensures)
 
-trim-start-requires : tie.Need-trim-start-requires
-trim-start-requires c κs = search needs
-
 sub-lead : tie.Need-sub-lead
 sub-lead c = rw (c .trim-start .ensures) (strip-le isBlank (c .before .before .args .line .now) 0)
-
-trim-end-requires : tie.Need-trim-end-requires
-trim-end-requires c κs = search needs
-
-command-of-requires : tie.Need-command-of-requires
-command-of-requires c κs = search needs
-
-add-read-command : tie.Need-add-read-command
-add-read-command c = search needs
 
 read-command-requires : tie.Need-read-command-requires
 read-command-requires c κs =
@@ -48,12 +36,6 @@ returns c =
 
 pub read-line-spec : {M : Type 1} → statement M
 read-line-spec =
-    tie.close
-    (tie.spec
-    trim-start-requires
-    sub-lead
-    trim-end-requires
-    command-of-requires
-    add-read-command
-    read-command-requires
-    returns)
+    tie.close (tie.spec (λ c κs. search needs)
+    sub-lead (λ c κs. search needs) (λ c κs. search needs) (λ c. search needs)
+    read-command-requires returns)

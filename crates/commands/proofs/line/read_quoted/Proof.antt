@@ -2,9 +2,10 @@
 -- gives the data and the parameters.
 -- Assumes nothing.
 use mathlib.Core.Path.{_≡_, sym, ap, _∙_}
-use Prim.Native.Nat.{_+_}
+use mathlib.Core.List.{List}
+use Prim.Native.Nat.{ℕ, _+_}
 use native.Mathlib.Omega.{arith}
-use lib.ListN.{length}
+use lib.ListN.{length, take, drop}
 use lib.Seq.{length-take-le}
 use borrow.Author.Tests.{eq-eqb, ne-eqb}
 use Rattle.text.specs.Fields.{indexOf, before, beforeLast, quoted, withoutTrailingCommas}
@@ -15,68 +16,43 @@ use borrow.Author.Needs.{needs}
 use Rattle.commands.proofs.line.read_quoted.Statement.{statement}
 use Rattle.commands.proofs.line.read_quoted.Tie as tie
 
+-- the line
+abbrev text : tie.After-find → List ℕ
+text f = f .before .before .args .t .now
+
 -- the data that was cut out
-cut : (d : tie.After-before-last) → d .before-last .result .now ≡ quoted (d .before .before .before .before .before .args .t .now)
+cut : (d : tie.After-before-last) → d .before-last .result .now ≡ quoted (text (d .before .before .before))
 cut d =
     let f = d .before .before .before in
-    d .before-last .ensures ∙ ap (beforeLast 34) (after-here 34 (f .before .before .args .t .now) (f .find .result) (f .find .ensures .is))
+    d .before-last .ensures ∙ ap (beforeLast 34) (after-here 34 (text f) (f .find .result) (f .find .ensures .is))
+
+-- where the first quote was found
+abbrev found : tie.After-without-trailing-commas → tie.After-find
+found d = d .before .before .before .before .before .before .before
 
 -- the parameters that were cut out
-params : (d : tie.After-without-trailing-commas) → d .without-trailing-commas .result .now ≡ paramsOf (d .before .before .before .before .before .before .before .before .before .args .t .now)
+params : (d : tie.After-without-trailing-commas) → d .without-trailing-commas .result .now ≡ paramsOf (text (found d))
 unfolding paramsOf before
 params d =
-    let f = d .before .before .before .before .before .before .before in
-    d .without-trailing-commas .ensures ∙ ap withoutTrailingCommas (d .before .tail .ensures) ∙ rw (f .find .ensures .is)
-
-find-requires : tie.Need-find-requires
-find-requires c κs = search needs
-
-sub-if1 : tie.Need-sub-if1
-sub-if1 c = search needs
+    let f = found d in
+    d .without-trailing-commas .ensures ∙ ap withoutTrailingCommas (d .before .tail .ensures) ∙ ap (λ (n : ℕ). withoutTrailingCommas (drop 1 (take n (text f)))) (f .find .ensures .is)
 
 returns : tie.Need-returns
 unfolding quotedReading
 returns c =
-    let t = c .before .before .before .args .t .now in
+    let t = text (c .before) in
     simp (eq-eqb (length (quoted t)) 0 (quoted-none t (omega (arith, c .before .find .ensures .is))))
-
-add-m : tie.Need-add-m
-add-m c = search needs
-
-sub-before-last : tie.Need-sub-before-last
-sub-before-last c = search needs
-
-part-before-last-start : tie.Need-part-before-last-start
-part-before-last-start c = search needs
-
-part-before-last-end : tie.Need-part-before-last-end
-part-before-last-end c = search needs
-
-before-last-requires : tie.Need-before-last-requires
-before-last-requires c κs = search needs
 
 returns-2 : tie.Need-returns-2
 unfolding quotedReading
 returns-2 c =
     let d = c .before in
-    simp (eq-eqb (length (quoted (d .before .before .before .before .before .args .t .now))) 0 (sym (ap length (cut d)) ∙ c .if2 .taken))
-
-add-t10 : tie.Need-add-t10
-add-t10 c = search needs
+    simp (eq-eqb (length (quoted (text (d .before .before .before)))) 0 (sym (ap length (cut d)) ∙ c .if2 .taken))
 
 slice-aggregate-tail : tie.Need-slice-aggregate-tail
 slice-aggregate-tail c =
     let f = c .before .before .before .before .before in
-    sym (length-take-le (f .find .result) (f .before .before .args .t .now) (f .find .ensures .fits))
-
-tail-requires : tie.Need-tail-requires
-tail-requires c κs = search needs
-
-without-trailing-commas-requires : tie.Need-without-trailing-commas-requires
-without-trailing-commas-requires c κs = search needs
-
-with-data-requires : tie.Need-with-data-requires
-with-data-requires c κs = search needs
+    sym (length-take-le (f .find .result) (text f) (f .find .ensures .fits))
 
 returns-3 : tie.Need-returns-3
 unfolding quotedReading
@@ -92,20 +68,8 @@ returns-3 c =
 
 pub read-quoted-spec : {M : Type 1} → statement M
 read-quoted-spec =
-    tie.close
-    (tie.spec
-    find-requires
-    sub-if1
-    returns
-    add-m
-    sub-before-last
-    part-before-last-start
-    part-before-last-end
-    before-last-requires
-    returns-2
-    add-t10
-    slice-aggregate-tail
-    tail-requires
-    without-trailing-commas-requires
-    with-data-requires
+    tie.close (tie.spec (λ c κs. search needs) (λ c. search needs)
+    returns (λ c. search needs) (λ c. search needs) (λ c. search needs) (λ c. search needs) (λ c κs. search needs)
+    returns-2 (λ c. search needs)
+    slice-aggregate-tail (λ c κs. search needs) (λ c κs. search needs) (λ c κs. search needs)
     returns-3)

@@ -23,48 +23,36 @@ measured s d p n h at m =
     ∙ omega (arith, length-decode-le (part s d), length-take (d .len) (drop (d .start) s), length-drop (d .start) s)
 
 -- what is due where the input is within its limit, and how long it is
-module _ (n : tie.After-decoded-len) where
-  due-is : let a = n .before .before .before .before .before .args in dueOf (a .input .now) (a .d) ≡ text (decode (part (a .input .now) (a .d)))
-  due-is = let a = n .before .before .before .before .before .args in within-short longest (a .input .now) (text (decode (part (a .input .now) (a .d)))) (n .before .before .if1 .left)
+abbrev entry : tie.After-decoded-len → tie.Start
+entry n = n .before .before .before .before .before
 
-  long-is : let a = n .before .before .before .before .before .args in n .decoded-len .result ≡ length (decode (part (a .input .now) (a .d)))
-  long-is = let a = n .before .before .before .before .before .args in measured (a .input .now) (a .d) _ (n .decoded-len .result) (n .before .before .if1 .left) (n .before .part .ensures) (n .decoded-len .ensures)
+module _ (n : tie.After-decoded-len) where
+  due-is : let a = entry n .args in dueOf (a .input .now) (a .d) ≡ text (decode (part (a .input .now) (a .d)))
+  due-is = let a = entry n .args in within-short longest (a .input .now) (text (decode (part (a .input .now) (a .d)))) (n .before .before .if1 .left)
+
+  long-is : let a = entry n .args in n .decoded-len .result ≡ length (decode (part (a .input .now) (a .d)))
+  long-is = let a = entry n .args in measured (a .input .now) (a .d) _ (n .decoded-len .result) (n .before .before .if1 .left) (n .before .part .ensures) (n .decoded-len .ensures)
 
 returns : tie.Need-returns
 returns c =
     let a = c .before .before .before .args in
     fills-denied (a .out .now) (within-long longest (a .input .now) (text (decode (part (a .input .now) (a .d)))) (c .if1 .taken))
 
-part-requires : tie.Need-part-requires
-part-requires c κs = search needs
-
-decoded-len-requires : tie.Need-decoded-len-requires
-decoded-len-requires c κs = search needs
-
 returns-2 : tie.Need-returns-2
-returns-2 c = let n = c .before in fills-short (n .before .before .before .before .before .args .out .now) (due-is n) (long-is n) (c .if2 .taken)
+returns-2 c = let n = c .before in fills-short (entry n .args .out .now) (due-is n) (long-is n) (c .if2 .taken)
 
 write-decoded-requires : tie.Need-write-decoded-requires
 write-decoded-requires c κs = let n = c .before .before in omega (arith, long-is n, ap (λ (x : List ℕ). length (decode x)) (n .before .part .ensures))
-
-same-length : tie.Need-same-length
-same-length c = search needs
 
 returns-3 : tie.Need-returns-3
 returns-3 c =
     let w = c .before .before in
     let n = w .before .before .before in
-    let a = n .before .before .before .before .before .args in
+    let a = entry n .args in
     fills-written (a .out .now) (due-is n) (long-is n) (w .before .before .if2 .left) (w .write-decoded .ensures .is ∙ ap (λ (x : List ℕ). sets (a .out .now) 0 (decode x)) (n .before .part .ensures))
 
 pub decode-spec : {M : Type 1} → statement M
 decode-spec =
-    tie.close
-    (tie.spec
-    returns
-    part-requires
-    decoded-len-requires
-    returns-2
-    write-decoded-requires
-    same-length
+    tie.close (tie.spec returns (λ c κs. search needs) (λ c κs. search needs)
+    returns-2 write-decoded-requires (λ c. search needs)
     returns-3)

@@ -7,15 +7,6 @@ use borrow.Author.Needs.{needs}
 use Rattle.draws.proofs.draw.diagonal.Statement.{statement}
 use Rattle.draws.proofs.draw.diagonal.Tie as tie
 
-enum-known-d : tie.Need-enum-known-d
-enum-known-d c = search needs
-
-enum-told : tie.Need-enum-told
-enum-told c = search needs
-
-enum-told-2 : tie.Need-enum-told-2
-enum-told-2 c = search needs
-
 returns : tie.Need-returns
 returns c =
     let known = c .struct-told .given in
@@ -23,11 +14,7 @@ returns c =
     rw (back32 (d .0 .0 .width) (known .1 .0 .1), back32 (d .0 .0 .height) (known .1 .1 .0 .1), toZ-ofZ (c .before .before .before .before .before .fits .thickness))
     (simp (d .1))
 
-returns-2 : tie.Need-returns-2
-returns-2 c = simp (c .enum-told .given .1)
-
-returns-3 : tie.Need-returns-3
-returns-3 c = simp (c .enum-told2 .given .1)
-
 pub diagonal-spec : {M : Type 1} → statement M
-diagonal-spec = tie.close (tie.spec enum-known-d enum-told enum-told-2 returns returns-2 returns-3)
+diagonal-spec =
+    tie.close (tie.spec (λ c. search needs) (λ c. search needs) (λ c. search needs)
+    returns (λ c. simp (c .enum-told .given .1)) (λ c. simp (c .enum-told2 .given .1)))

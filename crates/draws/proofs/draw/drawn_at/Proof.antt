@@ -59,56 +59,20 @@ down-is d =
     let k = from-across (d .before .before .before) .args .c in
     simp (back32 (k .first .y) (d .before .before .struct-told7 .given .1 .0 .1), back32 (k .second .y) (d .before .struct-told8 .given .1 .0 .1)) at (d .extent-of2 .ensures)
 
-min-requires : tie.Need-min-requires
-min-requires c κs = search needs
-
-min-requires-2 : tie.Need-min-requires-2
-min-requires-2 c κs = search needs
-
-place-requires : tie.Need-place-requires
-place-requires c κs = search needs
-
-enum-known-position : tie.Need-enum-known-position
-enum-known-position c = search needs
-
-enum-told : tie.Need-enum-told
-enum-told c = search needs
-
 returns : tie.Need-returns
 unfolding drawnAt
 returns c = simp (sym (place-is (c .before .before)) ∙ c .enum-told .given .1)
-
-extent-of-requires : tie.Need-extent-of-requires
-extent-of-requires c κs = search needs
-
-enum-known-across : tie.Need-enum-known-across
-enum-known-across c = search needs
-
-enum-told-2 : tie.Need-enum-told-2
-enum-told-2 c = search needs
 
 returns-2 : tie.Need-returns-2
 returns-2 c =
     let e = c .before .before in
     rw (drawn (e .before .before .before)) (simp (sym (across-is e) ∙ c .enum-told2 .given .1))
 
-extent-of-requires-2 : tie.Need-extent-of-requires-2
-extent-of-requires-2 c κs = search needs
-
-enum-known-down : tie.Need-enum-known-down
-enum-known-down c = search needs
-
-enum-told-3 : tie.Need-enum-told-3
-enum-told-3 c = search needs
-
 returns-3 : tie.Need-returns-3
 returns-3 c =
     let e = c .before .before in
     let x = e .before .before .before in
     rw (drawn (x .before .before .before .before .before .before)) (simp (across x, sym (down-is e) ∙ c .enum-told3 .given .1))
-
-same-way-requires : tie.Need-same-way-requires
-same-way-requires c κs = search needs
 
 returns-4 : tie.Need-returns-4
 returns-4 c =
@@ -120,21 +84,9 @@ returns-4 c =
 
 pub drawn-at-spec : {M : Type 1} → statement M
 drawn-at-spec =
-    tie.close
-    (tie.spec
-    min-requires
-    min-requires-2
-    place-requires
-    enum-known-position
-    enum-told
-    returns
-    extent-of-requires
-    enum-known-across
-    enum-told-2
-    returns-2
-    extent-of-requires-2
-    enum-known-down
-    enum-told-3
-    returns-3
-    same-way-requires
+    tie.close (tie.spec
+    (λ c κs. search needs) (λ c κs. search needs) (λ c κs. search needs) (λ c. search needs) (λ c. search needs)
+    returns (λ c κs. search needs) (λ c. search needs) (λ c. search needs)
+    returns-2 (λ c κs. search needs) (λ c. search needs) (λ c. search needs)
+    returns-3 (λ c κs. search needs)
     returns-4)

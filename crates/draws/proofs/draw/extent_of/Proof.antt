@@ -20,27 +20,9 @@ known-d d = sym (difference (d .before .before .before)) ∙ d .before .d .given
 distance : (d : tie.After-checked-abs) → d .checked-abs .result ≡ checked (absZ (d .before .before .d .given .0 .0))
 distance d = simp (back32 (d .before .before .d .given .0 .0) (d .before .known-told .given .0 .1)) at (d .checked-abs .ensures)
 
-checked-sub-requires : tie.Need-checked-sub-requires
-checked-sub-requires c κs = search needs
-
-enum-known-d : tie.Need-enum-known-d
-enum-known-d c = search needs
-
-enum-told : tie.Need-enum-told
-enum-told c = search needs
-
 returns : tie.Need-returns
 unfolding extentOf
 returns c = simp (sym (difference (c .before .before)) ∙ c .enum-told .given .1)
-
-checked-abs-requires : tie.Need-checked-abs-requires
-checked-abs-requires c κs = search needs
-
-enum-known-size : tie.Need-enum-known-size
-enum-known-size c = search needs
-
-enum-told-2 : tie.Need-enum-told-2
-enum-told-2 c = search needs
 
 returns-2 : tie.Need-returns-2
 unfolding extentOf
@@ -60,14 +42,6 @@ returns-3 c =
 
 pub extent-of-spec : {M : Type 1} → statement M
 extent-of-spec =
-    tie.close
-    (tie.spec
-    checked-sub-requires
-    enum-known-d
-    enum-told
-    returns
-    checked-abs-requires
-    enum-known-size
-    enum-told-2
-    returns-2
-    returns-3)
+    tie.close (tie.spec (λ c κs. search needs) (λ c. search needs) (λ c. search needs)
+    returns (λ c κs. search needs) (λ c. search needs) (λ c. search needs)
+    returns-2 returns-3)

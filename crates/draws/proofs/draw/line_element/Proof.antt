@@ -14,21 +14,9 @@ place-is d =
     let known = d .before .struct-told2 .given in
     simp (back32 (at .x) (known .0 .1), back32 (at .y) (known .1 .0 .1)) at (d .place .ensures)
 
-place-requires : tie.Need-place-requires
-place-requires c κs = search needs
-
-enum-known-position : tie.Need-enum-known-position
-enum-known-position c = search needs
-
-enum-told : tie.Need-enum-told
-enum-told c = search needs
-
 returns : tie.Need-returns
 unfolding lineElement
 returns c = simp (sym (place-is (c .before .before)) ∙ c .enum-told .given .1)
-
-min-requires : tie.Need-min-requires
-min-requires c κs = search needs
 
 returns-2 : tie.Need-returns-2
 unfolding lineElement
@@ -43,5 +31,6 @@ returns-2 c =
 
 pub line-element-spec : {M : Type 1} → statement M
 line-element-spec =
-    tie.close
-    (tie.spec place-requires enum-known-position enum-told returns min-requires returns-2)
+    tie.close (tie.spec (λ c κs. search needs) (λ c. search needs) (λ c. search needs)
+    returns (λ c κs. search needs)
+    returns-2)

@@ -9,24 +9,12 @@ use borrow.Author.Needs.{needs}
 use Rattle.draws.proofs.draw.parse_epl_box.Statement.{statement}
 use Rattle.draws.proofs.draw.parse_epl_box.Tie as tie
 
-read-corners-requires : tie.Need-read-corners-requires
-read-corners-requires c κs = search needs
-
-reaches-requires : tie.Need-reaches-requires
-reaches-requires c κs = search needs
-
 returns : tie.Need-returns
 unfolding boxReading
 returns c =
     let n = c .before in
     let k = n .before .read-corners in
     too-few _ _ _ _ (five _ (k .ensures) (n .reaches .ensures)) (c .if1 .taken)
-
-drawn-at-requires : tie.Need-drawn-at-requires
-drawn-at-requires c κs = search needs
-
-boxed-requires : tie.Need-boxed-requires
-boxed-requires c κs = search needs
 
 returns-2 : tie.Need-returns-2
 unfolding boxReading
@@ -39,11 +27,6 @@ returns-2 c =
 
 pub parse-epl-box-spec : {M : Type 1} → statement M
 parse-epl-box-spec =
-    tie.close
-    (tie.spec
-    read-corners-requires
-    reaches-requires
-    returns
-    drawn-at-requires
-    boxed-requires
+    tie.close (tie.spec (λ c κs. search needs) (λ c κs. search needs)
+    returns (λ c κs. search needs) (λ c κs. search needs)
     returns-2)

@@ -39,27 +39,9 @@ module _ (d : tie.After-size-from) where
 counted : (d : tie.After-reaches) → d .reaches .result ≡ leb 4 (length (fields (s (d .before .before))))
 counted d = let w = d .before .before in reached 3 (s w) (s w) (w .size-from .result .next) (at-h w) refl (d .reaches .ensures)
 
-number-from-requires : tie.Need-number-from-requires
-number-from-requires c κs = search needs
-
-number-from-requires-2 : tie.Need-number-from-requires-2
-number-from-requires-2 c κs = search needs
-
-size-from-requires : tie.Need-size-from-requires
-size-from-requires c κs = search needs
-
-reaches-requires : tie.Need-reaches-requires
-reaches-requires c κs = search needs
-
 returns : tie.Need-returns
 unfolding lineReading
 returns c = too-few _ _ _ _ (counted (c .before)) (c .if1 .taken)
-
-size-from-requires-2 : tie.Need-size-from-requires-2
-size-from-requires-2 c κs = search needs
-
-line-element-requires : tie.Need-line-element-requires
-line-element-requires c κs = search needs
 
 returns-2 : tie.Need-returns-2
 unfolding lineReading lineFields pointOf numberAt sizeAt
@@ -90,13 +72,6 @@ returns-2 c =
 
 pub parse-epl-line-spec : {M : Type 1} → statement M
 parse-epl-line-spec =
-    tie.close
-    (tie.spec
-    number-from-requires
-    number-from-requires-2
-    size-from-requires
-    reaches-requires
-    returns
-    size-from-requires-2
-    line-element-requires
+    tie.close (tie.spec (λ c κs. search needs) (λ c κs. search needs) (λ c κs. search needs) (λ c κs. search needs)
+    returns (λ c κs. search needs) (λ c κs. search needs)
     returns-2)

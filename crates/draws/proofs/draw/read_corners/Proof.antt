@@ -12,21 +12,6 @@ use borrow.Author.Needs.{needs}
 use Rattle.draws.proofs.draw.read_corners.Statement.{statement}
 use Rattle.draws.proofs.draw.read_corners.Tie as tie
 
-number-from-requires : tie.Need-number-from-requires
-number-from-requires c κs = search needs
-
-number-from-requires-2 : tie.Need-number-from-requires-2
-number-from-requires-2 c κs = search needs
-
-size-from-requires : tie.Need-size-from-requires
-size-from-requires c κs = search needs
-
-number-from-requires-3 : tie.Need-number-from-requires-3
-number-from-requires-3 c κs = search needs
-
-number-from-requires-4 : tie.Need-number-from-requires-4
-number-from-requires-4 c κs = search needs
-
 returns : tie.Need-returns
 unfolding cornersRead cornersAt pointOf numberAt sizeAt
 returns c =
@@ -62,11 +47,6 @@ returns c =
 
 pub read-corners-spec : {M : Type 1} → statement M
 read-corners-spec =
-    tie.close
-    (tie.spec
-    number-from-requires
-    number-from-requires-2
-    size-from-requires
-    number-from-requires-3
-    number-from-requires-4
+    tie.close (tie.spec
+    (λ c κs. search needs) (λ c κs. search needs) (λ c κs. search needs) (λ c κs. search needs) (λ c κs. search needs)
     returns)

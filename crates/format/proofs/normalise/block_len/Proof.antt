@@ -54,25 +54,10 @@ one-block s g e =
 abbrev src : tie.After-gw-span → List ℕ
 src g = g .before .before .before .before .args .rest .now
 
-opens-gw-requires : tie.Need-opens-gw-requires
-opens-gw-requires c κs = search needs
-
 returns : tie.Need-returns
 returns c =
     let o = c .before in
     no-opening (o .before .before .args .rest .now) (sym (o .opens-gw .ensures) ∙ not-true (o .opens-gw .result) (c .if1 .taken))
-
-gw-span-requires : tie.Need-gw-span-requires
-gw-span-requires c κs = search needs
-
-enum-told : tie.Need-enum-told
-enum-told c = search needs
-
-enum-known-n : tie.Need-enum-known-n
-enum-known-n c = search needs
-
-enum-known-g : tie.Need-enum-known-g
-enum-known-g c = search needs
 
 returns-2 : tie.Need-returns-2
 returns-2 c =
@@ -92,14 +77,6 @@ returns-4 c =
 
 pub block-len-spec : {M : Type 1} → statement M
 block-len-spec =
-    tie.close
-    (tie.spec
-    opens-gw-requires
-    returns
-    gw-span-requires
-    enum-told
-    enum-known-n
-    enum-known-g
-    returns-2
-    returns-3
-    returns-4)
+    tie.close (tie.spec (λ c κs. search needs)
+    returns (λ c κs. search needs) (λ c. search needs) (λ c. search needs) (λ c. search needs)
+    returns-2 returns-3 returns-4)

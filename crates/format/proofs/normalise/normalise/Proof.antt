@@ -28,24 +28,12 @@ returns c =
     let a = c .before .before .before .args in
     fills-denied (a .out .now) (within-long longest (a .input .now) (text (normalised (a .input .now))) (c .if1 .taken))
 
-room-for-requires : tie.Need-room-for-requires
-room-for-requires c κs = search needs
-
-measure-requires : tie.Need-measure-requires
-measure-requires c κs = search needs
-
 returns-2 : tie.Need-returns-2
 returns-2 c =
     let m = c .before in
     let e = m .before .before .before in
     let a = e .before .before .before .args in
     fills-short (a .out .now) (within-short longest (a .input .now) (text (normalised (a .input .now))) (e .if1 .left)) (m .measure .ensures) (c .if3 .taken)
-
-put-chunks-requires : tie.Need-put-chunks-requires
-put-chunks-requires c κs = fits (c .before)
-
-same-length : tie.Need-same-length
-same-length c = search needs
 
 returns-3 : tie.Need-returns-3
 returns-3 c =
@@ -58,12 +46,6 @@ returns-3 c =
 
 pub normalise-spec : {M : Type 1} → statement M
 normalise-spec =
-    tie.close
-    (tie.spec
-    returns
-    room-for-requires
-    measure-requires
-    returns-2
-    put-chunks-requires
-    same-length
+    tie.close (tie.spec returns (λ c κs. search needs) (λ c κs. search needs)
+    returns-2 (λ c κs. fits (c .before)) (λ c. search needs)
     returns-3)

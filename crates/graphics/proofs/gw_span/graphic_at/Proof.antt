@@ -14,24 +14,9 @@ answer d =
     let p = d .before .before .before .before .args .g .at in
     simp (back32 (p .x) (d .before .struct-told2 .given .0 .1), back32 (p .y) (d .before .struct-told2 .given .1 .0 .1)) at (d .place .ensures)
 
-place-requires : tie.Need-place-requires
-place-requires c κs = search needs
-
-enum-known-position : tie.Need-enum-known-position
-enum-known-position c = search needs
-
-enum-told : tie.Need-enum-told
-enum-told c = search needs
-
 returns : tie.Need-returns
 unfolding graphicAt
 returns c = simp (sym (answer (c .before .before)) ∙ c .enum-told .given .1)
-
-add-t8 : tie.Need-add-t8
-add-t8 c = search needs
-
-sub-t9 : tie.Need-sub-t9
-sub-t9 c = search needs
 
 returns-2 : tie.Need-returns-2
 unfolding graphicAt
@@ -43,4 +28,6 @@ returns-2 c =
 
 pub graphic-at-spec : {M : Type 1} → statement M
 graphic-at-spec =
-    tie.close (tie.spec place-requires enum-known-position enum-told returns add-t8 sub-t9 returns-2)
+    tie.close (tie.spec (λ c κs. search needs) (λ c. search needs) (λ c. search needs)
+    returns (λ c. search needs) (λ c. search needs)
+    returns-2)

@@ -11,20 +11,11 @@ use Rattle.graphics.proofs.BlockLaws.{two-here, two-none}
 use Rattle.graphics.proofs.gw_span.gw_behind_blanks.Statement.{statement}
 use Rattle.graphics.proofs.gw_span.gw_behind_blanks.Tie as tie
 
-trim-line-start-requires : tie.Need-trim-line-start-requires
-trim-line-start-requires c κs = search needs
-
 returns : tie.Need-returns
 unfolding opensGw
 returns c =
     let t = c .before .trim-line-start in
     two-none (t .result .now) 71 87 (c .if1 .taken) ∙ ap (λ (l : List ℕ). same (take 2 l) (71 ∷ 87 ∷ [])) (t .ensures)
-
-shared-slice-read-result : tie.Need-shared-slice-read-result
-shared-slice-read-result c = search needs
-
-shared-slice-read-result-2 : tie.Need-shared-slice-read-result-2
-shared-slice-read-result-2 c = search needs
 
 returns-2 : tie.Need-returns-2
 unfolding opensGw
@@ -34,10 +25,4 @@ returns-2 c =
 
 pub gw-behind-blanks-spec : {M : Type 1} → statement M
 gw-behind-blanks-spec =
-    tie.close
-    (tie.spec
-    trim-line-start-requires
-    returns
-    shared-slice-read-result
-    shared-slice-read-result-2
-    returns-2)
+    tie.close (tie.spec (λ c κs. search needs) returns (λ c. search needs) (λ c. search needs) returns-2)

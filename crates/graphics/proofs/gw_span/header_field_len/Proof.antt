@@ -1,7 +1,7 @@
 -- `graphics::gw_span::header_field_len` meets its contract. Invariant: `Within`, nothing but bytes of the field stands
 -- before i. Measure: t's length less i.
 -- Assumes nothing.
-use mathlib.Core.Path.{sym, refl, _∙_, _≡_}
+use mathlib.Core.Path.{sym, _∙_, _≡_}
 use mathlib.Core.Bool.{true, false}
 use mathlib.Core.List.{List, _++_, append-nil, append-assoc}
 use Prim.Native.Nat.{_-_, ℕ, _+_, _<_, _≤_}
@@ -52,21 +52,6 @@ Inv-loop t i₀ i = Within t i
 abbrev μ-loop : tie.MeasureT-loop
 μ-loop t i₀ i = length t - i
 
-loop-holds : tie.Need-loop-holds Inv-loop μ-loop
-loop-holds c = record { passed = refl; left = refl; fits = search needs }
-
-shared-slice-read-in-field : tie.Need-shared-slice-read-in-field Inv-loop μ-loop
-shared-slice-read-in-field c = search needs
-
-in-field-requires : tie.Need-in-field-requires Inv-loop μ-loop
-in-field-requires c κs = search needs
-
-add-i : tie.Need-add-i Inv-loop μ-loop
-add-i c = search needs
-
-loop-less : tie.Need-loop-less Inv-loop μ-loop
-loop-less c = search needs
-
 loop-again : tie.Need-loop-again Inv-loop μ-loop
 loop-again c =
     let l = c .before .before .before .before in
@@ -83,14 +68,6 @@ returns-2 c = field-end (c .before .before .before .args .t .now) (c .before .lo
 pub header-field-len-spec : {M : Type 1} → statement M
 header-field-len-spec =
     tie.close
-    (tie.spec
-    Inv-loop
-    μ-loop
-    loop-holds
-    shared-slice-read-in-field
-    in-field-requires
-    add-i
-    loop-less
-    loop-again
-    returns
-    returns-2)
+    (tie.spec Inv-loop μ-loop (λ c. search needs) (λ c. search needs) (λ c κs. search needs) (λ c. search needs)
+    (λ c. search needs)
+    loop-again returns returns-2)

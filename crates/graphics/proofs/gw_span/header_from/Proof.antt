@@ -13,39 +13,6 @@ use Rattle.graphics.proofs.gw_span.header_from.Tie as tie
 len : (d : tie.After-header-field-len) → FieldLen (drop (d .before .before .before .args .at) (d .before .before .before .args .t .now)) (d .header-field-len .result)
 len d = rw rest at (d .header-field-len .ensures)
 
-sub-header-field-len : tie.Need-sub-header-field-len
-sub-header-field-len c = search needs
-
-part-header-field-len-start : tie.Need-part-header-field-len-start
-part-header-field-len-start c = search needs
-
-part-header-field-len-end : tie.Need-part-header-field-len-end
-part-header-field-len-end c = search needs
-
-header-field-len-requires : tie.Need-header-field-len-requires
-header-field-len-requires c κs = search needs
-
-add-end : tie.Need-add-end
-add-end c = search needs
-
-sub-first-number : tie.Need-sub-first-number
-sub-first-number c = search needs
-
-part-first-number-start : tie.Need-part-first-number-start
-part-first-number-start c = search needs
-
-part-first-number-end : tie.Need-part-first-number-end
-part-first-number-end c = search needs
-
-first-number-requires : tie.Need-first-number-requires
-first-number-requires c κs = search needs
-
-shared-slice-read-if2 : tie.Need-shared-slice-read-if2
-shared-slice-read-if2 c = search needs
-
-add-t17 : tie.Need-add-t17
-add-t17 c = search needs
-
 returns : tie.Need-returns
 returns c =
     let v = c .before .before .before in
@@ -67,18 +34,7 @@ returns-3 c =
 pub header-from-spec : {M : Type 1} → statement M
 header-from-spec =
     tie.close
-    (tie.spec
-    sub-header-field-len
-    part-header-field-len-start
-    part-header-field-len-end
-    header-field-len-requires
-    add-end
-    sub-first-number
-    part-first-number-start
-    part-first-number-end
-    first-number-requires
-    shared-slice-read-if2
-    add-t17
-    returns
-    returns-2
-    returns-3)
+    (tie.spec (λ c. search needs) (λ c. search needs) (λ c. search needs) (λ c κs. search needs) (λ c. search needs)
+    (λ c. search needs) (λ c. search needs) (λ c. search needs) (λ c κs. search needs) (λ c. search needs)
+    (λ c. search needs)
+    returns returns-2 returns-3)

@@ -3,8 +3,5 @@ use borrow.Author.Needs.{needs}
 use Rattle.graphics.proofs.gw_span.in_field.Statement.{statement}
 use Rattle.graphics.proofs.gw_span.in_field.Tie as tie
 
-returns : tie.Need-returns
-returns c = search needs
-
 pub in-field-spec : {M : Type 1} → statement M
-in-field-spec = tie.close (tie.spec returns)
+in-field-spec = tie.close (tie.spec (λ c. search needs))

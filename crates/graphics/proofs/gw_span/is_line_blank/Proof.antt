@@ -11,13 +11,10 @@ use Rattle.graphics.specs.Block.{isLineBlank}
 use Rattle.graphics.proofs.gw_span.is_line_blank.Statement.{statement}
 use Rattle.graphics.proofs.gw_span.is_line_blank.Tie as tie
 
-is-ascii-blank-requires : tie.Need-is-ascii-blank-requires
-is-ascii-blank-requires c κs = search needs
-
 returns : tie.Need-returns
 returns c =
     let b = c .before .args .b in
     ap (λ (x : Bool). x && not (eqb b 10)) (c .is-ascii-blank .ensures) ∙ bytes (λ (b : ℕ). isAsciiBlank b && not (eqb b 10)) isLineBlank tt b (search needs)
 
 pub is-line-blank-spec : {M : Type 1} → statement M
-is-line-blank-spec = tie.close (tie.spec is-ascii-blank-requires returns)
+is-line-blank-spec = tie.close (tie.spec (λ c κs. search needs) returns)

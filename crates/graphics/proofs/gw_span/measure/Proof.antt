@@ -60,9 +60,6 @@ returns-3 c =
     let a = d .before .before .args in
     simp (width-ok (c .before .before), lines-ok (c .before), lt-ltb (a .left) (total (a .n)) (simp (width-back d, lines-back d) at (c .if3 .taken)))
 
-add-t12 : tie.Need-add-t12
-add-t12 c = search needs
-
 returns-4 : tie.Need-returns-4
 unfolding measured
 returns-4 c =
@@ -73,5 +70,4 @@ returns-4 c =
 
 pub measure-spec : {M : Type 1} → statement M
 measure-spec =
-    tie.close
-    (tie.spec returns returns-2 cast-total cast-total-2 mul-total returns-3 add-t12 returns-4)
+    tie.close (tie.spec returns returns-2 cast-total cast-total-2 mul-total returns-3 (λ c. search needs) returns-4)

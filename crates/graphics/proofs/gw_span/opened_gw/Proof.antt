@@ -15,23 +15,11 @@ use Rattle.graphics.proofs.gw_span.opened_gw.Tie as tie
 header : (d : tie.After-tail-two) → d .tail-two .result .now ≡ headerOf (d .before .before .before .args .rest .now)
 header d = d .tail-two .ensures ∙ ap (drop 2) (d .before .trim-line-start .ensures)
 
-trim-line-start-requires : tie.Need-trim-line-start-requires
-trim-line-start-requires c κs = search needs
-
-tail-two-requires : tie.Need-tail-two-requires
-tail-two-requires c κs = search needs
-
-header-from-requires : tie.Need-header-from-requires
-header-from-requires c κs = search needs
-
 returns : tie.Need-returns
 returns c =
     let x = c .before .before in
     not-four _ _ (header (x .before)) (x .before .before .before .before .pre)
     (first-open (x .header-from .ensures) (c .if1 .taken))
-
-header-from-requires-2 : tie.Need-header-from-requires-2
-header-from-requires-2 c κs = search needs
 
 returns-2 : tie.Need-returns-2
 returns-2 c =
@@ -41,9 +29,6 @@ returns-2 c =
     (second-open
     (closed (x .header-from .ensures) (y .before .if1 .left))
     (y .header-from2 .ensures) (c .if2 .taken))
-
-header-from-requires-3 : tie.Need-header-from-requires-3
-header-from-requires-3 c κs = search needs
 
 returns-3 : tie.Need-returns-3
 returns-3 c =
@@ -55,9 +40,6 @@ returns-3 c =
     (closed (x .header-from .ensures) (y .before .if1 .left))
     (closed (y .header-from2 .ensures) (w .before .if2 .left))
     (w .header-from3 .ensures) (c .if3 .taken))
-
-header-from-requires-4 : tie.Need-header-from-requires-4
-header-from-requires-4 c κs = search needs
 
 returns-4 : tie.Need-returns-4
 returns-4 c =
@@ -71,9 +53,6 @@ returns-4 c =
     (closed (y .header-from2 .ensures) (w .before .if2 .left))
     (closed (w .header-from3 .ensures) (l .before .if3 .left))
     (l .header-from4 .ensures) (c .if4 .taken))
-
-sub-left : tie.Need-sub-left
-sub-left c = search needs
 
 sub-measure : tie.Need-sub-measure
 sub-measure c =
@@ -102,19 +81,9 @@ returns-5 c =
 
 pub opened-gw-spec : {M : Type 1} → statement M
 opened-gw-spec =
-    tie.close
-    (tie.spec
-    trim-line-start-requires
-    tail-two-requires
-    header-from-requires
-    returns
-    header-from-requires-2
-    returns-2
-    header-from-requires-3
-    returns-3
-    header-from-requires-4
-    returns-4
-    sub-left
-    sub-measure
-    measure-requires
-    returns-5)
+    tie.close (tie.spec (λ c κs. search needs) (λ c κs. search needs) (λ c κs. search needs)
+    returns (λ c κs. search needs)
+    returns-2 (λ c κs. search needs)
+    returns-3 (λ c κs. search needs)
+    returns-4 (λ c. search needs)
+    sub-measure measure-requires returns-5)

@@ -9,26 +9,11 @@ use Rattle.graphics.proofs.BlockLaws.{span-fits}
 use Rattle.graphics.proofs.gw_span.read_block.Statement.{statement}
 use Rattle.graphics.proofs.gw_span.read_block.Tie as tie
 
-opens-gw-requires : tie.Need-opens-gw-requires
-opens-gw-requires c κs = search needs
-
 returns : tie.Need-returns
 unfolding gwSpan
 returns c =
     let o = c .before .opens-gw in
     simp (sym (o .ensures) ∙ not-true (o .result) (c .if1 .taken))
-
-gw-span-requires : tie.Need-gw-span-requires
-gw-span-requires c κs = search needs
-
-enum-told : tie.Need-enum-told
-enum-told c = search needs
-
-enum-known-n : tie.Need-enum-known-n
-enum-known-n c = search needs
-
-enum-known-g : tie.Need-enum-known-g
-enum-known-g c = search needs
 
 graphic-at-requires : tie.Need-graphic-at-requires
 graphic-at-requires c κs =
@@ -47,15 +32,6 @@ returns-4 c = simp (c .graphic-at .ensures, sym (c .before .before .before .befo
 
 pub read-block-spec : {M : Type 1} → statement M
 read-block-spec =
-    tie.close
-    (tie.spec
-    opens-gw-requires
-    returns
-    gw-span-requires
-    enum-told
-    enum-known-n
-    enum-known-g
-    graphic-at-requires
-    returns-2
-    returns-3
-    returns-4)
+    tie.close (tie.spec (λ c κs. search needs)
+    returns (λ c κs. search needs) (λ c. search needs) (λ c. search needs) (λ c. search needs)
+    graphic-at-requires returns-2 returns-3 returns-4)

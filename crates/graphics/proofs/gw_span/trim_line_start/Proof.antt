@@ -18,34 +18,10 @@ Inv-loop s i₀ i = (i ≤ length s) × (dropWhile isLineBlank s ≡ dropWhile i
 abbrev μ-loop : tie.MeasureT-loop
 μ-loop s i₀ i = length s - i
 
-loop-holds : tie.Need-loop-holds Inv-loop μ-loop
-loop-holds c = search needs
-
-shared-slice-read-is-line-blank : tie.Need-shared-slice-read-is-line-blank Inv-loop μ-loop
-shared-slice-read-is-line-blank c = search needs
-
-is-line-blank-requires : tie.Need-is-line-blank-requires Inv-loop μ-loop
-is-line-blank-requires c κs = search needs
-
-add-i : tie.Need-add-i Inv-loop μ-loop
-add-i c = search needs
-
-loop-less : tie.Need-loop-less Inv-loop μ-loop
-loop-less c = search needs
-
 loop-again : tie.Need-loop-again Inv-loop μ-loop
 loop-again c =
     let l = c .before .before .before .before in
     (search needs, l .loop .inv .1 ∙ front-skip isLineBlank (l .before .before .args .s .now) (l .loop .i) (search needs) (sym (c .before .is-line-blank .ensures) ∙ c .if1 .taken))
-
-sub-result : tie.Need-sub-result Inv-loop μ-loop
-sub-result c = search needs
-
-part-result-start : tie.Need-part-result-start Inv-loop μ-loop
-part-result-start c = search needs
-
-part-result-end : tie.Need-part-result-end Inv-loop μ-loop
-part-result-end c = search needs
 
 returns : tie.Need-returns Inv-loop μ-loop
 returns c =
@@ -59,16 +35,7 @@ returns c =
 pub trim-line-start-spec : {M : Type 1} → statement M
 trim-line-start-spec =
     tie.close
-    (tie.spec
-    Inv-loop
-    μ-loop
-    loop-holds
-    shared-slice-read-is-line-blank
-    is-line-blank-requires
-    add-i
-    loop-less
-    loop-again
-    sub-result
-    part-result-start
-    part-result-end
+    (tie.spec Inv-loop μ-loop (λ c. search needs) (λ c. search needs) (λ c κs. search needs) (λ c. search needs)
+    (λ c. search needs)
+    loop-again (λ c. search needs) (λ c. search needs) (λ c. search needs)
     returns)

@@ -10,21 +10,6 @@ use borrow.Author.Needs.{needs}
 use Rattle.lines.proofs.line.line_len.Statement.{statement}
 use Rattle.lines.proofs.line.line_len.Tie as tie
 
-find-requires : tie.Need-find-requires
-find-requires c κs = search needs
-
-first-requires : tie.Need-first-requires
-first-requires c κs = search needs
-
-trim-ascii-start-requires : tie.Need-trim-ascii-start-requires
-trim-ascii-start-requires c κs = search needs
-
-trim-ascii-end-requires : tie.Need-trim-ascii-end-requires
-trim-ascii-end-requires c κs = search needs
-
-line-size-requires : tie.Need-line-size-requires
-line-size-requires c κs = search needs
-
 returns : tie.Need-returns
 returns c =
     let e = c .before in
@@ -40,4 +25,7 @@ returns c =
     }
 
 pub line-len-spec : {M : Type 1} → statement M
-line-len-spec = tie.close (tie.spec find-requires first-requires trim-ascii-start-requires trim-ascii-end-requires line-size-requires returns)
+line-len-spec =
+    tie.close (tie.spec
+    (λ c κs. search needs) (λ c κs. search needs) (λ c κs. search needs) (λ c κs. search needs) (λ c κs. search needs)
+    returns)

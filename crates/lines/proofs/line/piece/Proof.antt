@@ -9,15 +9,6 @@ use borrow.Author.Needs.{needs}
 use Rattle.lines.proofs.line.piece.Statement.{statement}
 use Rattle.lines.proofs.line.piece.Tie as tie
 
-first-requires : tie.Need-first-requires
-first-requires c κs = search needs
-
-find-requires : tie.Need-find-requires
-find-requires c κs = search needs
-
-first-requires-2 : tie.Need-first-requires-2
-first-requires-2 c κs = search needs
-
 returns : tie.Need-returns
 returns c =
     let f = c .before in
@@ -25,4 +16,4 @@ returns c =
     c .first2 .ensures ∙ ap (λ (k : ℕ). take k (n .first .result .now)) (f .find .ensures .is) ∙ sym (front-index (n .first .result .now)) ∙ ap (front notLf) (n .first .ensures)
 
 pub piece-spec : {M : Type 1} → statement M
-piece-spec = tie.close (tie.spec first-requires find-requires first-requires-2 returns)
+piece-spec = tie.close (tie.spec (λ c κs. search needs) (λ c κs. search needs) (λ c κs. search needs) returns)

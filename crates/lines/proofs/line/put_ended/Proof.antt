@@ -11,20 +11,11 @@ returns c = let a = c .before .before .before .args in put-none (a .part .now) (
 put-bytes-requires : tie.Need-put-bytes-requires
 put-bytes-requires c κs = let e = c .before in omega (arith, ended-length (e .before .before .before .args .part .now) (e .if1 .left))
 
-add-end : tie.Need-add-end
-add-end c = search needs
-
 slice-write-out : tie.Need-slice-write-out
 slice-write-out c =
     let p = c .before .before in
     let e = p .before .before in
     omega (arith, ended-length (e .before .before .before .args .part .now) (e .if1 .left), p .put-bytes .ensures .long)
-
-add-result : tie.Need-add-result
-add-result c = search needs
-
-same-length : tie.Need-same-length
-same-length c = search needs
 
 returns-2 : tie.Need-returns-2
 returns-2 c =
@@ -35,5 +26,6 @@ returns-2 c =
 
 pub put-ended-spec : {M : Type 1} → statement M
 put-ended-spec =
-    tie.close
-    (tie.spec returns put-bytes-requires add-end slice-write-out add-result same-length returns-2)
+    tie.close (tie.spec returns put-bytes-requires (λ c. search needs)
+    slice-write-out (λ c. search needs) (λ c. search needs)
+    returns-2)

@@ -16,27 +16,6 @@ use borrow.Author.Needs.{needs}
 use Rattle.lines.proofs.line.put_line.Statement.{statement}
 use Rattle.lines.proofs.line.put_line.Tie as tie
 
-near-requires : tie.Need-near-requires
-near-requires c κs = search needs
-
-put-long-requires : tie.Need-put-long-requires
-put-long-requires c κs = search needs
-
-same-length : tie.Need-same-length
-same-length c = search needs
-
-returns : tie.Need-returns
-returns c = search needs
-
-first-requires : tie.Need-first-requires
-first-requires c κs = search needs
-
-trim-ascii-start-requires : tie.Need-trim-ascii-start-requires
-trim-ascii-start-requires c κs = search needs
-
-trim-ascii-end-requires : tie.Need-trim-ascii-end-requires
-trim-ascii-end-requires c κs = search needs
-
 size : (c : tie.Else1) → c .before .near .result ≡ length (front notLf (c .before .before .before .before .args .rest .now))
 size c = first-found (c .before .near .ensures .found (omega arith)) .is ∙ sym (index-length (c .before .before .before .before .args .rest .now))
 
@@ -53,12 +32,6 @@ put-ended-requires c κs =
     let t = c .before in
     omega (arith, t .before .before .before .before .before .before .before .pre, ap (λ (l : List ℕ). length (ended l)) (kept t))
 
-add-t14 : tie.Need-add-t14
-add-t14 c = search needs
-
-same-length-2 : tie.Need-same-length-2
-same-length-2 c = search needs
-
 returns-2 : tie.Need-returns-2
 returns-2 c =
     let p = c .before .before in
@@ -73,16 +46,8 @@ returns-2 c =
 
 pub put-line-spec : {M : Type 1} → statement M
 put-line-spec =
-    tie.close
-    (tie.spec
-    near-requires
-    put-long-requires
-    same-length
-    returns
-    first-requires
-    trim-ascii-start-requires
-    trim-ascii-end-requires
-    put-ended-requires
-    add-t14
-    same-length-2
+    tie.close (tie.spec
+    (λ c κs. search needs) (λ c κs. search needs) (λ c. search needs) (λ c. search needs) (λ c κs. search needs)
+    (λ c κs. search needs) (λ c κs. search needs)
+    put-ended-requires (λ c. search needs) (λ c. search needs)
     returns-2)

@@ -3,7 +3,7 @@
 use mathlib.Core.Path.{_≡_, sym, ap, _∙_, refl}
 use mathlib.Core.List.{List, [], _∷_}
 use mathlib.Core.Bool.{true, false, or-false}
-use Prim.Native.Nat.{ℕ, _+_, _-_}
+use Prim.Native.Nat.{ℕ, _+_, _-_, _≤_}
 use native.Mathlib.Omega.{arith}
 use lib.ListN.{length, length-append}
 use lib.Dec.{eqb}
@@ -43,18 +43,20 @@ started-size (b ∷ s) =
 kept : (c : tie.After-trim-line-start) → trimAscii (front notLf (c .before .before .before .args .rest .now)) ≡ dropEnd isAsciiBlank (front notLf (c .trim-line-start .result .now))
 kept c = ap (dropEnd isAsciiBlank) (started-is (c .before .before .before .args .rest .now) ∙ ap (front notLf) (sym (c .trim-line-start .ensures)))
 
-size : (c : tie.After-put-pieces) → length (c .before .before .before .before .before .args .rest .now) - length (c .before .before .trim-line-start .result .now) + c .put-pieces .result .size ≡ length (front notLf (c .before .before .before .before .before .args .rest .now))
-size c =
-    let t = c .before .before in
-    let s = t .before .before .before .args .rest .now in
-    omega (arith, c .put-pieces .ensures .size, ap (λ (l : List ℕ). length (front notLf l)) (t .trim-line-start .ensures), ap length (t .trim-line-start .ensures), started-size s)
+abbrev entry : tie.After-put-pieces → tie.Start
+entry p = p .before .before .before .before .before
 
--- the pieces, as what stays of the line
-put : (c : tie.After-put-pieces) → Put (c .put-pieces .last .1 .0) (c .before .before .before .before .before .args .out .now) (c .before .before .before .before .before .args .at) (trimAscii (front notLf (c .before .before .before .before .before .args .rest .now))) (c .put-pieces .result .to)
-put c = rw (kept (c .before .before)) (c .put-pieces .ensures .put)
+-- what stays of the line
+abbrev stays : tie.After-put-pieces → List ℕ
+stays p = trimAscii (front notLf (entry p .args .rest .now))
 
-trim-line-start-requires : tie.Need-trim-line-start-requires
-trim-line-start-requires c κs = search needs
+size : (p : tie.After-put-pieces) → let s = entry p .args .rest .now in length s - length (p .before .before .trim-line-start .result .now) + p .put-pieces .result .size ≡ length (front notLf s)
+size p =
+    let e = p .before .before .trim-line-start .ensures in
+    omega (arith, p .put-pieces .ensures .size, ap (λ (l : List ℕ). length (front notLf l)) e, ap length e, started-size (entry p .args .rest .now))
+
+put : (p : tie.After-put-pieces) → Put (p .put-pieces .last .1 .0) (entry p .args .out .now) (entry p .args .at) (stays p) (p .put-pieces .result .to)
+put p = rw (kept (p .before .before)) (p .put-pieces .ensures .put)
 
 sub-from : tie.Need-sub-from
 sub-from c = let s = c .before .before .before .args .rest .now in omega (arith, ap length (c .trim-line-start .ensures), drop-while-le isLineBlank s)
@@ -66,66 +68,30 @@ put-pieces-requires c κs =
     omega (arith, a .pre, ap length (kept t), ended-le (trimAscii (front notLf (a .args .rest .now))))
 
 add-line-size : tie.Need-add-line-size
-add-line-size c =
-    let p = c .before .before .before in
-    omega (arith, size p, front-le notLf (p .before .before .before .before .before .args .rest .now))
-
-line-size-requires : tie.Need-line-size-requires
-line-size-requires c κs = search needs
+add-line-size c = let p = c .before .before .before in omega (arith, size p, front-le notLf (entry p .args .rest .now))
 
 -- the line's size with its LF, and the pieces before it
 abbrev pieces : tie.After-line-size → tie.After-put-pieces
-pieces c = c .before .before .before .before
+pieces z = z .before .before .before .before
 
-sized : (c : tie.After-line-size) → c .line-size .result ≡ lineSize (pieces c .before .before .before .before .before .args .rest .now)
-sized c =
-    let s = pieces c .before .before .before .before .before .args .rest .now in
-    c .line-size .ensures ∙ ap (λ (n : ℕ). sizeBy n (length s)) (size (pieces c))
+sized : (z : tie.After-line-size) → z .line-size .result ≡ lineSize (entry (pieces z) .args .rest .now)
+sized z = z .line-size .ensures ∙ ap (λ (n : ℕ). sizeBy n (length (entry (pieces z) .args .rest .now))) (size (pieces z))
 
-same-length : tie.Need-same-length
-same-length c = search needs
+-- where something was written there is room for its LF
+room : (d : tie.Else1) → let p = pieces (d .before) in p .put-pieces .result .to + 1 ≤ length (entry p .args .out .now)
+room d =
+    let p = pieces (d .before) in
+    omega (arith, entry p .pre, put p .next, ap length (ended-some (stays p) (omega (arith, put p .next, d .if1 .left))), length-append (stays p) (10 ∷ []))
 
 returns : tie.Need-returns
-returns c =
-    let z = c .before in
-    let p = pieces z in
-    record { put = put-empty (trimAscii (front notLf (p .before .before .before .before .before .args .rest .now))) (put p) (c .if1 .taken); size = sized z }
-
-slice-write-out : tie.Need-slice-write-out
-slice-write-out c =
-    let p = pieces (c .before) in
-    let a = p .before .before .before .before .before in
-    let part = trimAscii (front notLf (a .args .rest .now)) in
-    omega (arith, a .pre, put p .next, put p .wrote .long, ap length (ended-some part (omega (arith, put p .next, c .if1 .left))), length-append part (10 ∷ []), c .if1 .left)
-
-add-t9 : tie.Need-add-t9
-add-t9 c =
-    let p = pieces (c .before) in
-    let a = p .before .before .before .before .before in
-    let part = trimAscii (front notLf (a .args .rest .now)) in
-    omega (arith, a .pre, put p .next, ap length (ended-some part (omega (arith, put p .next, c .if1 .left))), length-append part (10 ∷ []), c .if1 .left)
-
-same-length-2 : tie.Need-same-length-2
-same-length-2 c = search needs
+returns c = let p = pieces (c .before) in record { put = put-empty (stays p) (put p) (c .if1 .taken); size = sized (c .before) }
 
 returns-2 : tie.Need-returns-2
-returns-2 c =
-    let z = c .before in
-    let p = pieces z in
-    record { put = put-ended-at (trimAscii (front notLf (p .before .before .before .before .before .args .rest .now))) (put p) (c .if1 .left); size = sized z }
+returns-2 c = let p = pieces (c .before) in record { put = put-ended-at (stays p) (put p) (c .if1 .left); size = sized (c .before) }
 
 pub put-long-spec : {M : Type 1} → statement M
 put-long-spec =
-    tie.close
-    (tie.spec
-    trim-line-start-requires
-    sub-from
-    put-pieces-requires
-    add-line-size
-    line-size-requires
-    same-length
-    returns
-    slice-write-out
-    add-t9
-    same-length-2
+    tie.close (tie.spec (λ c κs. search needs)
+    sub-from put-pieces-requires add-line-size (λ c κs. search needs) (λ c. search needs)
+    returns (λ c. omega (arith, room c, put (pieces (c .before)) .wrote .long)) (λ c. omega (arith, room c)) (λ c. search needs)
     returns-2)

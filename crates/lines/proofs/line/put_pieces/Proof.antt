@@ -39,22 +39,22 @@ module _ {t out₀ : List ℕ} {at : ℕ} {out : List ℕ} {done seen to : ℕ} 
   abbrev next : List ℕ
   next = take 4096 (drop (seen - done) left)
 
-  next-is : (pc : List ℕ) → pc ≡ front notLf (take 4096 (take (length t - seen) (drop seen t))) → pc ≡ next
-  next-is pc e =
+  next-is : {pc : List ℕ} → pc ≡ front notLf (take 4096 (take (length t - seen) (drop seen t))) → pc ≡ next
+  next-is e =
       let k : done + (seen - done) ≡ seen = omega (arith, s .ordered) in
       e ∙ ap (λ (l : List ℕ). front notLf (take 4096 l)) (rest t seen) ∙ front-take notLf (drop seen t) 4096
       ∙ ap (take 4096) (front-behind notLf t seen (s .inside) ∙ ap (λ (j : ℕ). drop j line) (sym k) ∙ sym (drop-drop (seen - done) done line))
 
   -- a piece that is not full ends the line
-  ended-here : (pc : List ℕ) → pc ≡ front notLf (take 4096 (take (length t - seen) (drop seen t))) → length pc < 4096 → seen + length pc ≡ length line
-  ended-here pc e h = omega (arith, h, ap length (next-is pc e), length-take 4096 (drop (seen - done) left), length-drop (seen - done) left, length-drop done line, s .ordered, s .inside)
+  ended-here : {pc : List ℕ} → pc ≡ front notLf (take 4096 (take (length t - seen) (drop seen t))) → length pc < 4096 → seen + length pc ≡ length line
+  ended-here e h = omega (arith, h, ap length (next-is e), length-take 4096 (drop (seen - done) left), length-drop (seen - done) left, length-drop done line, s .ordered, s .inside)
 
-  module _ (pc d : List ℕ) (is : pc ≡ front notLf (take 4096 (take (length t - seen) (drop seen t)))) (kept : d ≡ dropEnd isAsciiBlank pc) where
+  module _ {pc d : List ℕ} (is : pc ≡ front notLf (take 4096 (take (length t - seen) (drop seen t)))) (kept : d ≡ dropEnd isAsciiBlank pc) where
     n-is : length pc ≡ length next
-    n-is = ap length (next-is pc is)
+    n-is = ap length (next-is is)
 
     q-is : length d ≡ length (dropEnd isAsciiBlank next)
-    q-is = ap length (kept ∙ ap (dropEnd isAsciiBlank) (next-is pc is))
+    q-is = ap length (kept ∙ ap (dropEnd isAsciiBlank) (next-is is))
 
     kept-in : length d ≤ length pc
     kept-in = omega (arith, n-is, q-is, kept-le isAsciiBlank left (seen - done) 4096)
@@ -63,7 +63,7 @@ module _ {t out₀ : List ℕ} {at : ℕ} {out : List ℕ} {done seen to : ℕ} 
     seen-le = omega (arith, n-is, length-take 4096 (drop (seen - done) left), length-drop (seen - done) left, length-drop done line, s .ordered, s .inside)
 
     -- up to there it is written
-    module _ (upto : ℕ) (u : ((seen < seen + length d) × (upto ≡ seen + length d)) ⊎ ((seen + length d ≤ seen) × (upto ≡ done))) where
+    module _ {upto : ℕ} (u : ((seen < seen + length d) × (upto ≡ seen + length d)) ⊎ ((seen + length d ≤ seen) × (upto ≡ done))) where
       forth : done ≤ upto
       forth = ⊎-elim (λ w. omega (arith, w .1, s .ordered)) (λ w. omega (arith, w .1)) u
 
@@ -154,41 +154,20 @@ module _ (j : tie.Joined1 Inv-loop μ-loop) where
 
   told : Told
   told = record {
-    to-upto = forth (l .loop .inv) pc kept (j .before .before .piece .ensures) (j .before .trim-ascii-end .ensures) (j .if1 .upto) came;
-    upto-in = upto-le (l .loop .inv) pc kept (j .before .before .piece .ensures) (j .before .trim-ascii-end .ensures) (j .if1 .upto) came;
-    in-line = seen-le (l .loop .inv) pc kept (j .before .before .piece .ensures) (j .before .trim-ascii-end .ensures);
+    to-upto = forth (l .loop .inv) (j .before .before .piece .ensures) (j .before .trim-ascii-end .ensures) came;
+    upto-in = upto-le (l .loop .inv) (j .before .before .piece .ensures) (j .before .trim-ascii-end .ensures) came;
+    in-line = seen-le (l .loop .inv) (j .before .before .piece .ensures) (j .before .trim-ascii-end .ensures);
     in-text = front-le notLf (l .before .before .before .args .t .now);
   }
 
 loop-holds : tie.Need-loop-holds Inv-loop μ-loop
 loop-holds c = let a = c .before .before .args in along-start (a .t .now) (a .out .now) (a .at)
 
-sub-piece : tie.Need-sub-piece Inv-loop μ-loop
-sub-piece c = seen-in c
-
-part-piece-start : tie.Need-part-piece-start Inv-loop μ-loop
-part-piece-start c = seen-in c
-
-part-piece-end : tie.Need-part-piece-end Inv-loop μ-loop
-part-piece-end c = search needs
-
-piece-requires : tie.Need-piece-requires Inv-loop μ-loop
-piece-requires c κs = search needs
-
-trim-ascii-end-requires : tie.Need-trim-ascii-end-requires Inv-loop μ-loop
-trim-ascii-end-requires c κs = search needs
-
 add-end : tie.Need-add-end Inv-loop μ-loop
 add-end c =
     let p = c .before in
     let l = p .before .before in
-    omega (arith, kept-in (l .loop .inv) _ _ (p .piece .ensures) (c .trim-ascii-end .ensures), seen-le (l .loop .inv) _ _ (p .piece .ensures) (c .trim-ascii-end .ensures), front-le notLf (l .before .before .before .args .t .now))
-
-sub-put-bytes : tie.Need-sub-put-bytes Inv-loop μ-loop
-sub-put-bytes c = told (c .before) .to-upto
-
-part-put-bytes-start : tie.Need-part-put-bytes-start Inv-loop μ-loop
-part-put-bytes-start c = told (c .before) .to-upto
+    omega (arith, kept-in (l .loop .inv) (p .piece .ensures) (c .trim-ascii-end .ensures), seen-le (l .loop .inv) (p .piece .ensures) (c .trim-ascii-end .ensures), front-le notLf (l .before .before .before .args .t .now))
 
 part-put-bytes-end : tie.Need-part-put-bytes-end Inv-loop μ-loop
 part-put-bytes-end c = let f = told (c .before) in omega (arith, f .upto-in, f .in-line, f .in-text)
@@ -199,13 +178,14 @@ put-bytes-requires c κs =
     let b = l j .loop in
     let t = l j .before .before .before .args .t .now in
     room (b .inv .toward) (take (j .if1 .upto - b .done) (drop (b .done) t)) (dropEnd isAsciiBlank (drop (j .if1 .upto) (front notLf t))) (l j .before .before .before .pre)
-    (splits (b .inv) (pc j) (kept j) (j .before .before .piece .ensures) (j .before .trim-ascii-end .ensures) (j .if1 .upto) (came j))
+    (splits (b .inv) (j .before .before .piece .ensures) (j .before .trim-ascii-end .ensures) (came j))
 
 -- the state behind a turn
-behind : (p : tie.After-put-bytes Inv-loop μ-loop) → Along (l (p .before .before .before .before) .before .before .before .args .t .now) (l (p .before .before .before .before) .before .before .before .args .out .now) (l (p .before .before .before .before) .before .before .before .args .at) (p .put-bytes .last .1 .0) (p .before .before .before .before .if1 .upto) (l (p .before .before .before .before) .loop .seen + length (pc (p .before .before .before .before))) (l (p .before .before .before .before) .loop .to + (p .before .before .before .before .if1 .upto - l (p .before .before .before .before) .loop .done))
+behind : (p : tie.After-put-bytes Inv-loop μ-loop) → let j = p .before .before .before .before in let a = l j .before .before .before .args in
+    Along (a .t .now) (a .out .now) (a .at) (p .put-bytes .last .1 .0) (j .if1 .upto) (l j .loop .seen + length (pc j)) (l j .loop .to + (j .if1 .upto - l j .loop .done))
 behind p =
     let j = p .before .before .before .before in
-    along-next (l j .loop .inv) (pc j) (kept j) (j .before .before .piece .ensures) (j .before .trim-ascii-end .ensures) (j .if1 .upto) (came j) (p .put-bytes .ensures)
+    along-next (l j .loop .inv) (j .before .before .piece .ensures) (j .before .trim-ascii-end .ensures) (came j) (p .put-bytes .ensures)
 
 sub-to : tie.Need-sub-to Inv-loop μ-loop
 sub-to c = told (c .before .before .before .before .before .before) .to-upto
@@ -218,14 +198,11 @@ add-to c =
 add-seen : tie.Need-add-seen Inv-loop μ-loop
 add-seen c = let f = told (c .before .before .before .before .before .before) in omega (arith, f .in-line, f .in-text)
 
-same-length : tie.Need-same-length Inv-loop μ-loop
-same-length c = search needs
-
 returns : tie.Need-returns Inv-loop μ-loop
 returns c =
     let p = c .before .before .before in
     let j = p .before .before .before .before in
-    let e = ended-here (l j .loop .inv) (pc j) (j .before .before .piece .ensures) (c .if2 .taken) in
+    let e = ended-here (l j .loop .inv) (j .before .before .piece .ensures) (c .if2 .taken) in
     record { put = along-end (behind p) (omega (arith, e)); size = e }
 
 loop-less : tie.Need-loop-less Inv-loop μ-loop
@@ -234,30 +211,11 @@ loop-less c =
     let f = told j in
     omega (arith, c .if2 .left, f .in-line, f .in-text)
 
-loop-again : tie.Need-loop-again Inv-loop μ-loop
-loop-again c = behind (c .before .before .before)
-
 pub put-pieces-spec : {M : Type 1} → statement M
 put-pieces-spec =
     tie.close
-    (tie.spec
-    Inv-loop
-    μ-loop
-    loop-holds
-    sub-piece
-    part-piece-start
-    part-piece-end
-    piece-requires
-    trim-ascii-end-requires
-    add-end
-    sub-put-bytes
-    part-put-bytes-start
-    part-put-bytes-end
-    put-bytes-requires
-    sub-to
-    add-to
-    add-seen
-    same-length
-    returns
-    loop-less
-    loop-again)
+    (tie.spec Inv-loop μ-loop loop-holds seen-in seen-in (λ c. search needs) (λ c κs. search needs)
+    (λ c κs. search needs)
+    add-end (λ c. told (c .before) .to-upto) (λ c. told (c .before) .to-upto) part-put-bytes-end put-bytes-requires
+    sub-to add-to add-seen (λ c. search needs)
+    returns loop-less (λ c. behind (c .before .before .before)))

@@ -11,29 +11,11 @@ use Rattle.numbers.proofs.blank.blank_len.Tie as tie
 returns : tie.Need-returns
 returns c = omega (arith, size-le isBlank refl (c .before .before .args .s .now))
 
-shared-slice-read-b : tie.Need-shared-slice-read-b
-shared-slice-read-b c = search needs
-
-is-plain-requires : tie.Need-is-plain-requires
-is-plain-requires c κs = search needs
-
 returns-2 : tie.Need-returns-2
 returns-2 c = sym (size-plain (c .before .before .before .before .before .args .s .now) (sym (c .before .is-plain .ensures) ∙ c .if2 .taken))
 
-is-blank1-requires : tie.Need-is-blank1-requires
-is-blank1-requires c κs = search needs
-
 returns-3 : tie.Need-returns-3
 returns-3 c = let s = c .before .before .before .before .before .before .before .args .s .now in size-one isBlank s (blank-first s ∙ sym (c .before .is-blank1 .ensures) ∙ c .if3 .taken)
-
-first-requires : tie.Need-first-requires
-first-requires c κs = search needs
-
-first-requires-2 : tie.Need-first-requires-2
-first-requires-2 c κs = search needs
-
-wide-len-requires : tie.Need-wide-len-requires
-wide-len-requires c κs = search needs
 
 returns-4 : tie.Need-returns-4
 returns-4 c =
@@ -43,15 +25,7 @@ returns-4 c =
 
 pub blank-len-spec : {M : Type 1} → statement M
 blank-len-spec =
-    tie.close
-    (tie.spec
-    returns
-    shared-slice-read-b
-    is-plain-requires
-    returns-2
-    is-blank1-requires
-    returns-3
-    first-requires
-    first-requires-2
-    wide-len-requires
+    tie.close (tie.spec returns (λ c. search needs) (λ c κs. search needs)
+    returns-2 (λ c κs. search needs)
+    returns-3 (λ c κs. search needs) (λ c κs. search needs) (λ c κs. search needs)
     returns-4)

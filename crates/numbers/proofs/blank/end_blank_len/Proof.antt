@@ -12,32 +12,11 @@ use Rattle.numbers.proofs.blank.end_blank_len.Tie as tie
 returns : tie.Need-returns
 returns c = omega (arith, end-le (c .before .before .args .s .now))
 
-sub-b : tie.Need-sub-b
-sub-b c = search needs
-
-shared-slice-read-b : tie.Need-shared-slice-read-b
-shared-slice-read-b c = search needs
-
-is-plain-requires : tie.Need-is-plain-requires
-is-plain-requires c κs = search needs
-
 returns-2 : tie.Need-returns-2
 returns-2 c = sym (end-plain (c .before .before .before .before .before .args .s .now) (omega arith) (sym (c .before .is-plain .ensures) ∙ c .if2 .taken))
 
-is-blank1-requires : tie.Need-is-blank1-requires
-is-blank1-requires c κs = search needs
-
 returns-3 : tie.Need-returns-3
 returns-3 c = let s = c .before .before .before .before .before .before .before .args .s .now in size-one (back isBlank) (reverse s) (blank-last s (omega arith) ∙ sym (c .before .is-blank1 .ensures) ∙ c .if3 .taken)
-
-last-requires : tie.Need-last-requires
-last-requires c κs = search needs
-
-last-requires-2 : tie.Need-last-requires-2
-last-requires-2 c κs = search needs
-
-wide-len-requires : tie.Need-wide-len-requires
-wide-len-requires c κs = search needs
 
 returns-4 : tie.Need-returns-4
 returns-4 c =
@@ -47,16 +26,7 @@ returns-4 c =
 
 pub end-blank-len-spec : {M : Type 1} → statement M
 end-blank-len-spec =
-    tie.close
-    (tie.spec
-    returns
-    sub-b
-    shared-slice-read-b
-    is-plain-requires
-    returns-2
-    is-blank1-requires
-    returns-3
-    last-requires
-    last-requires-2
-    wide-len-requires
+    tie.close (tie.spec returns (λ c. search needs) (λ c. search needs) (λ c κs. search needs)
+    returns-2 (λ c κs. search needs)
+    returns-3 (λ c κs. search needs) (λ c κs. search needs) (λ c κs. search needs)
     returns-4)

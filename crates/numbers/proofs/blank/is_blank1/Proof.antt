@@ -9,13 +9,10 @@ use Rattle.classes.proofs.TableLaws.{bytes}
 use Rattle.numbers.proofs.blank.is_blank1.Statement.{statement}
 use Rattle.numbers.proofs.blank.is_blank1.Tie as tie
 
-is-ascii-blank-requires : tie.Need-is-ascii-blank-requires
-is-ascii-blank-requires c κs = search needs
-
 returns : tie.Need-returns
 returns c =
     let a = c .before .args .a in
     ap (λ (x : Bool). x || eqb a 11) (c .is-ascii-blank .ensures) ∙ bytes (λ (b : ℕ). isAsciiBlank b || eqb b 11) isBlank1 tt a (search needs)
 
 pub is-blank1-spec : {M : Type 1} → statement M
-is-blank1-spec = tie.close (tie.spec is-ascii-blank-requires returns)
+is-blank1-spec = tie.close (tie.spec (λ c κs. search needs) returns)

@@ -25,34 +25,10 @@ abbrev μ-loop : tie.MeasureT-loop
 loop-holds : tie.Need-loop-holds Inv-loop μ-loop
 loop-holds c = (search needs, cc (take-length (c .before .args .s .now)))
 
-sub-if1 : tie.Need-sub-if1 Inv-loop μ-loop
-sub-if1 c = search needs
-
-shared-slice-read-if1 : tie.Need-shared-slice-read-if1 Inv-loop μ-loop
-shared-slice-read-if1 c = search needs
-
-sub-is-ascii-blank : tie.Need-sub-is-ascii-blank Inv-loop μ-loop
-sub-is-ascii-blank c = search needs
-
-shared-slice-read-is-ascii-blank : tie.Need-shared-slice-read-is-ascii-blank Inv-loop μ-loop
-shared-slice-read-is-ascii-blank c = search needs
-
-is-ascii-blank-requires : tie.Need-is-ascii-blank-requires Inv-loop μ-loop
-is-ascii-blank-requires c κs = search needs
-
-sub-n : tie.Need-sub-n Inv-loop μ-loop
-sub-n c = search needs
-
-loop-less : tie.Need-loop-less Inv-loop μ-loop
-loop-less c = search needs
-
 loop-again : tie.Need-loop-again Inv-loop μ-loop
 loop-again c =
     let l = c .before .before .before .before .before .before in
     (search needs, l .loop .inv .1 ∙ back-skip isAsciiBlank (l .before .before .args .s .now) (l .loop .n) (search needs) (search needs) (sym (c .before .is-ascii-blank .ensures) ∙ c .if2 .taken))
-
-slice-aggregate-result : tie.Need-slice-aggregate-result Inv-loop μ-loop
-slice-aggregate-result c = simp length-take (omega arith)
 
 returns : tie.Need-returns Inv-loop μ-loop
 returns c =
@@ -68,17 +44,6 @@ returns c =
 pub trim-ascii-end-spec : {M : Type 1} → statement M
 trim-ascii-end-spec =
     tie.close
-    (tie.spec
-    Inv-loop
-    μ-loop
-    loop-holds
-    sub-if1
-    shared-slice-read-if1
-    sub-is-ascii-blank
-    shared-slice-read-is-ascii-blank
-    is-ascii-blank-requires
-    sub-n
-    loop-less
-    loop-again
-    slice-aggregate-result
-    returns)
+    (tie.spec Inv-loop μ-loop loop-holds (λ c. search needs) (λ c. search needs) (λ c. search needs) (λ c. search needs)
+    (λ c κs. search needs) (λ c. search needs) (λ c. search needs)
+    loop-again (λ c. simp length-take (omega arith)) returns)

@@ -19,37 +19,10 @@ Inv-loop s i₀ i = (i ≤ length s) × (dropWhile isAsciiBlank s ≡ dropWhile 
 abbrev μ-loop : tie.MeasureT-loop
 μ-loop s i₀ i = length s - i
 
-loop-holds : tie.Need-loop-holds Inv-loop μ-loop
-loop-holds c = search needs
-
-shared-slice-read-if1 : tie.Need-shared-slice-read-if1 Inv-loop μ-loop
-shared-slice-read-if1 c = search needs
-
-shared-slice-read-is-ascii-blank : tie.Need-shared-slice-read-is-ascii-blank Inv-loop μ-loop
-shared-slice-read-is-ascii-blank c = search needs
-
-is-ascii-blank-requires : tie.Need-is-ascii-blank-requires Inv-loop μ-loop
-is-ascii-blank-requires c κs = search needs
-
-add-i : tie.Need-add-i Inv-loop μ-loop
-add-i c = search needs
-
-loop-less : tie.Need-loop-less Inv-loop μ-loop
-loop-less c = search needs
-
 loop-again : tie.Need-loop-again Inv-loop μ-loop
 loop-again c =
     let l = c .before .before .before .before .before .before in
     (search needs, l .loop .inv .1 ∙ front-skip isAsciiBlank (l .before .before .args .s .now) (l .loop .i) (search needs) (sym (c .before .is-ascii-blank .ensures) ∙ c .if2 .taken))
-
-sub-result : tie.Need-sub-result Inv-loop μ-loop
-sub-result c = search needs
-
-part-result-start : tie.Need-part-result-start Inv-loop μ-loop
-part-result-start c = search needs
-
-part-result-end : tie.Need-part-result-end Inv-loop μ-loop
-part-result-end c = search needs
 
 returns : tie.Need-returns Inv-loop μ-loop
 returns c =
@@ -65,17 +38,7 @@ returns c =
 pub trim-ascii-start-spec : {M : Type 1} → statement M
 trim-ascii-start-spec =
     tie.close
-    (tie.spec
-    Inv-loop
-    μ-loop
-    loop-holds
-    shared-slice-read-if1
-    shared-slice-read-is-ascii-blank
-    is-ascii-blank-requires
-    add-i
-    loop-less
-    loop-again
-    sub-result
-    part-result-start
-    part-result-end
+    (tie.spec Inv-loop μ-loop (λ c. search needs) (λ c. search needs) (λ c. search needs) (λ c κs. search needs)
+    (λ c. search needs) (λ c. search needs)
+    loop-again (λ c. search needs) (λ c. search needs) (λ c. search needs)
     returns)

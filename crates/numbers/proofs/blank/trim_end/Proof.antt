@@ -20,22 +20,10 @@ abbrev μ-loop : tie.MeasureT-loop
 fits : (d : tie.After-end-blank-len Inv-loop μ-loop) → d .end-blank-len .result ≤ length (d .before .loop .t .now)
 fits d = omega (arith, d .end-blank-len .ensures, end-le (d .before .loop .t .now))
 
-loop-holds : tie.Need-loop-holds Inv-loop μ-loop
-loop-holds c = search needs
-
-end-blank-len-requires : tie.Need-end-blank-len-requires Inv-loop μ-loop
-end-blank-len-requires c κs = search needs
-
 returns : tie.Need-returns Inv-loop μ-loop
 returns c =
     let d = c .before in let l = d .before .loop in
     sym (l .inv .1 ∙ end-stop (l .t .now) (d .end-blank-len .result) (d .end-blank-len .ensures) (omega (arith, c .if1 .taken)))
-
-sub-n : tie.Need-sub-n Inv-loop μ-loop
-sub-n c = omega (arith, fits (c .before))
-
-slice-aggregate-t : tie.Need-slice-aggregate-t Inv-loop μ-loop
-slice-aggregate-t c = simp length-take (omega arith)
 
 loop-less : tie.Need-loop-less Inv-loop μ-loop
 loop-less c =
@@ -50,14 +38,5 @@ loop-again c =
 
 pub trim-end-spec : {M : Type 1} → statement M
 trim-end-spec =
-    tie.close
-    (tie.spec
-    Inv-loop
-    μ-loop
-    loop-holds
-    end-blank-len-requires
-    returns
-    sub-n
-    slice-aggregate-t
-    loop-less
-    loop-again)
+    tie.close (tie.spec Inv-loop μ-loop (λ c. search needs) (λ c κs. search needs)
+    returns (λ c. omega (arith, fits (c .before))) (λ c. simp length-take (omega arith)) loop-less loop-again)

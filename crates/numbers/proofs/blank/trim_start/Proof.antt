@@ -20,25 +20,10 @@ abbrev μ-loop : tie.MeasureT-loop
 fits : (d : tie.After-blank-len Inv-loop μ-loop) → d .blank-len .result ≤ length (d .before .loop .t .now)
 fits d = omega (arith, d .blank-len .ensures, size-le isBlank refl (d .before .loop .t .now))
 
-loop-holds : tie.Need-loop-holds Inv-loop μ-loop
-loop-holds c = search needs
-
-blank-len-requires : tie.Need-blank-len-requires Inv-loop μ-loop
-blank-len-requires c κs = search needs
-
 returns : tie.Need-returns Inv-loop μ-loop
 returns c =
     let d = c .before in let l = d .before .loop in
     sym (l .inv .1 ∙ strip-stop isBlank refl (l .t .now) (d .blank-len .result) (d .blank-len .ensures) (omega (arith, c .if1 .taken)))
-
-sub-t : tie.Need-sub-t Inv-loop μ-loop
-sub-t c = omega (arith, fits (c .before))
-
-part-t-start : tie.Need-part-t-start Inv-loop μ-loop
-part-t-start c = omega (arith, fits (c .before))
-
-part-t-end : tie.Need-part-t-end Inv-loop μ-loop
-part-t-end c = search needs
 
 loop-less : tie.Need-loop-less Inv-loop μ-loop
 loop-less c =
@@ -53,15 +38,6 @@ loop-again c =
 
 pub trim-start-spec : {M : Type 1} → statement M
 trim-start-spec =
-    tie.close
-    (tie.spec
-    Inv-loop
-    μ-loop
-    loop-holds
-    blank-len-requires
-    returns
-    sub-t
-    part-t-start
-    part-t-end
-    loop-less
-    loop-again)
+    tie.close (tie.spec Inv-loop μ-loop (λ c. search needs) (λ c κs. search needs)
+    returns (λ c. omega (arith, fits (c .before))) (λ c. omega (arith, fits (c .before))) (λ c. search needs)
+    loop-less loop-again)

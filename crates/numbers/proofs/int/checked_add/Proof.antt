@@ -9,12 +9,6 @@ use Rattle.numbers.proofs.IntLaws.{back64}
 use Rattle.numbers.proofs.int.checked_add.Statement.{statement}
 use Rattle.numbers.proofs.int.checked_add.Tie as tie
 
-plus-requires : tie.Need-plus-requires
-plus-requires c κs = search needs
-
-narrow-requires : tie.Need-narrow-requires
-narrow-requires c κs = search needs
-
 returns : tie.Need-returns
 returns c =
     let s = c .before .before in
@@ -22,4 +16,4 @@ returns c =
     simp (back64 (c .before .plus .result) (c .before .plus .ok)) at (c .narrow .ensures) ∙ ap checked e
 
 pub checked-add-spec : {M : Type 1} → statement M
-checked-add-spec = tie.close (tie.spec plus-requires narrow-requires returns)
+checked-add-spec = tie.close (tie.spec (λ c κs. search needs) (λ c κs. search needs) returns)

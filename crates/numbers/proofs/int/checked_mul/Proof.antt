@@ -9,12 +9,6 @@ use Rattle.numbers.proofs.IntLaws.{back64}
 use Rattle.numbers.proofs.int.checked_mul.Statement.{statement}
 use Rattle.numbers.proofs.int.checked_mul.Tie as tie
 
-times-requires : tie.Need-times-requires
-times-requires c κs = search needs
-
-narrow-requires : tie.Need-narrow-requires
-narrow-requires c κs = search needs
-
 returns : tie.Need-returns
 returns c =
     let s = c .before .before in
@@ -22,4 +16,4 @@ returns c =
     simp (back64 (c .before .times .result) (c .before .times .ok)) at (c .narrow .ensures) ∙ ap checked e
 
 pub checked-mul-spec : {M : Type 1} → statement M
-checked-mul-spec = tie.close (tie.spec times-requires narrow-requires returns)
+checked-mul-spec = tie.close (tie.spec (λ c κs. search needs) (λ c κs. search needs) returns)

@@ -9,12 +9,6 @@ use Rattle.numbers.proofs.IntLaws.{back64}
 use Rattle.numbers.proofs.int.checked_sub.Statement.{statement}
 use Rattle.numbers.proofs.int.checked_sub.Tie as tie
 
-minus-requires : tie.Need-minus-requires
-minus-requires c κs = search needs
-
-narrow-requires : tie.Need-narrow-requires
-narrow-requires c κs = search needs
-
 returns : tie.Need-returns
 returns c =
     let s = c .before .before in
@@ -22,4 +16,4 @@ returns c =
     simp (back64 (c .before .minus .result) (c .before .minus .ok)) at (c .narrow .ensures) ∙ ap checked e
 
 pub checked-sub-spec : {M : Type 1} → statement M
-checked-sub-spec = tie.close (tie.spec minus-requires narrow-requires returns)
+checked-sub-spec = tie.close (tie.spec (λ c κs. search needs) (λ c κs. search needs) returns)

@@ -11,7 +11,7 @@ use borrow.Author.Tests.{not-true, not-false}
 use Rattle.text.specs.Class.{isDigit}
 use Rattle.text.proofs.BoolLaws.{within-low, within-high}
 use Rattle.numbers.specs.Number.{valueFrom, digitsOf, capped}
-use Rattle.numbers.proofs.NumberLaws.{some-digits, no-digits, no-digit, one-more, over-least, all-read, all-over}
+use Rattle.numbers.proofs.NumberLaws.{digits-some, digits-none, value-other, value-step, capped-least, capped-upto, capped-over}
 use Rattle.numbers.proofs.number.digits.Statement.{statement}
 use Rattle.numbers.proofs.number.digits.Tie as tie
 
@@ -28,24 +28,15 @@ digit : (d : tie.Else2 Inv-loop μ-loop) → isDigit (byte d) ≡ true
 digit d = sym (d .before .is-digit .ensures) ∙ not-false _ (d .if2 .left)
 
 returns : tie.Need-returns Inv-loop μ-loop
-returns c = sym (ap capped (no-digits (c .before .before .args .s .now) (c .if1 .taken)))
+returns c = sym (ap capped (digits-none (c .before .before .args .s .now) (c .if1 .taken)))
 
 loop-holds : tie.Need-loop-holds Inv-loop μ-loop
-loop-holds c = (search needs, search needs, ap capped (some-digits (c .before .before .args .s .now) (omega arith)))
-
-shared-slice-read-c : tie.Need-shared-slice-read-c Inv-loop μ-loop
-shared-slice-read-c c = search needs
-
-is-digit-requires : tie.Need-is-digit-requires Inv-loop μ-loop
-is-digit-requires c κs = search needs
+loop-holds c = (search needs, search needs, ap capped (digits-some (c .before .before .args .s .now) (omega arith)))
 
 returns-2 : tie.Need-returns-2 Inv-loop μ-loop
 returns-2 c =
     let l = c .before .before .before .before in
-    sym (l .loop .inv .2 ∙ ap capped (no-digit (l .before .before .before .args .s .now) (l .loop .i) (l .loop .v) (search needs) (sym (c .before .is-digit .ensures) ∙ not-true _ (c .if2 .taken))))
-
-mul-w : tie.Need-mul-w Inv-loop μ-loop
-mul-w c = search needs
+    sym (l .loop .inv .2 ∙ ap capped (value-other (l .before .before .before .args .s .now) (l .loop .i) (l .loop .v) (search needs) (sym (c .before .is-digit .ensures) ∙ not-true _ (c .if2 .taken))))
 
 sub-w : tie.Need-sub-w Inv-loop μ-loop
 sub-w c = omega (arith, within-low 48 57 (byte c) (digit c))
@@ -56,15 +47,6 @@ cast-w c = omega (arith, within-high 48 57 (byte c) (digit c))
 add-w : tie.Need-add-w Inv-loop μ-loop
 add-w c = omega (arith, within-high 48 57 (byte c) (digit c))
 
-least-requires : tie.Need-least-requires Inv-loop μ-loop
-least-requires c κs = search needs
-
-add-i : tie.Need-add-i Inv-loop μ-loop
-add-i c = search needs
-
-loop-less : tie.Need-loop-less Inv-loop μ-loop
-loop-less c = search needs
-
 loop-again : tie.Need-loop-again Inv-loop μ-loop
 loop-again c =
     let l = c .before .before .before .before .before in
@@ -72,37 +54,22 @@ loop-again c =
     let m = c .least .ensures in (
       search needs,
       omega (arith, m),
-      l .loop .inv .2 ∙ ap capped (one-more s (l .loop .i) (l .loop .v) (search needs) (digit (c .before))) ∙ over-least (drop (l .loop .i + 1) s) _ (c .least .result) m,
+      l .loop .inv .2 ∙ ap capped (value-step s (l .loop .i) (l .loop .v) (search needs) (digit (c .before))) ∙ capped-least (drop (l .loop .i + 1) s) _ (c .least .result) m,
     )
 
 returns-3 : tie.Need-returns-3 Inv-loop μ-loop
 returns-3 c =
     let l = c .before .before in
-    sym (l .loop .inv .2 ∙ all-over (l .before .before .before .args .s .now) (l .loop .i) (l .loop .v) (c .before .loop-test .left) (c .if3 .taken))
+    sym (l .loop .inv .2 ∙ capped-over (l .before .before .before .args .s .now) (l .loop .i) (l .loop .v) (c .before .loop-test .left) (c .if3 .taken))
 
 returns-4 : tie.Need-returns-4 Inv-loop μ-loop
 returns-4 c =
     let l = c .before .before in
-    sym (l .loop .inv .2 ∙ all-read (l .before .before .before .args .s .now) (l .loop .i) (l .loop .v) (c .before .loop-test .left) (c .if3 .left))
+    sym (l .loop .inv .2 ∙ capped-upto (l .before .before .before .args .s .now) (l .loop .i) (l .loop .v) (c .before .loop-test .left) (c .if3 .left))
 
 pub digits-spec : {M : Type 1} → statement M
 digits-spec =
-    tie.close
-    (tie.spec
-    Inv-loop
-    μ-loop
-    returns
-    loop-holds
-    shared-slice-read-c
-    is-digit-requires
-    returns-2
-    mul-w
-    sub-w
-    cast-w
-    add-w
-    least-requires
-    add-i
-    loop-less
-    loop-again
-    returns-3
-    returns-4)
+    tie.close (tie.spec Inv-loop μ-loop returns loop-holds (λ c. search needs) (λ c κs. search needs)
+    returns-2 (λ c. search needs)
+    sub-w cast-w add-w (λ c κs. search needs) (λ c. search needs) (λ c. search needs)
+    loop-again returns-3 returns-4)

@@ -8,25 +8,22 @@ use mir.Syntax.{w64}
 use mir.Facts.{toZ-pos}
 use borrow.Author.Needs.{needs}
 use Rattle.numbers.proofs.IntLaws.{back32, back64}
-use Rattle.numbers.proofs.NumberLaws.{zero-sub, mag-minus}
+use Rattle.numbers.proofs.NumberLaws.{zero-sub, mag-neg-lt}
 use Rattle.numbers.proofs.number.minus.Statement.{statement}
 use Rattle.numbers.proofs.number.minus.Tie as tie
 
-cast-result : tie.Need-cast-result
-cast-result c = search needs
-
 sub-result : tie.Need-sub-result
-sub-result c = simp (toZ-pos w64 {n = c .args .v} (omega arith), zero-sub) (record { sfits = omega (arith, mag-minus (c .args .v) (c .pre)) })
+sub-result c = simp (toZ-pos w64 {n = c .args .v} (omega arith), zero-sub) (record { sfits = omega (arith, mag-neg-lt (c .args .v) (c .pre)) })
 
 cast-result-2 : tie.Need-cast-result-2
 cast-result-2 c =
-    let m : mag (negℤ (pos (c .args .v))) < 2147483648 = mag-minus (c .args .v) (c .pre) in
+    let m : mag (negℤ (pos (c .args .v))) < 2147483648 = mag-neg-lt (c .args .v) (c .pre) in
     rw (toZ-pos w64 {n = c .args .v} (omega arith), zero-sub (c .args .v), back64 (negℤ (pos (c .args .v))) (omega arith)) (record { sfits = m })
 
 returns : tie.Need-returns
 returns c =
-    let m : mag (negℤ (pos (c .args .v))) < 2147483648 = mag-minus (c .args .v) (c .pre) in
+    let m : mag (negℤ (pos (c .args .v))) < 2147483648 = mag-neg-lt (c .args .v) (c .pre) in
     rw (toZ-pos w64 {n = c .args .v} (omega arith), zero-sub (c .args .v), back64 (negℤ (pos (c .args .v))) (omega arith), back32 (negℤ (pos (c .args .v))) m)
 
 pub minus-spec : {M : Type 1} → statement M
-minus-spec = tie.close (tie.spec cast-result sub-result cast-result-2 returns)
+minus-spec = tie.close (tie.spec (λ c. search needs) sub-result cast-result-2 returns)

@@ -8,16 +8,10 @@ use Rattle.numbers.proofs.IntLaws.{back32}
 use Rattle.numbers.proofs.number.number_or.Statement.{statement}
 use Rattle.numbers.proofs.number.number_or.Tie as tie
 
-field-number-requires : tie.Need-field-number-requires
-field-number-requires c κs = search needs
-
-or-default-requires : tie.Need-or-default-requires
-or-default-requires c κs = search needs
-
 returns : tie.Need-returns
 returns c =
     let s = c .before .before .before in
     back32 (c .or-default .result) (c .or-default .ok) ∙ (simp (toZ-ofZ (s .fits .default)) at (c .or-default .ensures)) ∙ ap (numberOr (s .args .default)) (c .before .field-number .ensures)
 
 pub number-or-spec : {M : Type 1} → statement M
-number-or-spec = tie.close (tie.spec field-number-requires or-default-requires returns)
+number-or-spec = tie.close (tie.spec (λ c κs. search needs) (λ c κs. search needs) returns)

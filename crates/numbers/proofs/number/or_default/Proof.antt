@@ -8,18 +8,6 @@ use Rattle.numbers.proofs.IntLaws.{back32}
 use Rattle.numbers.proofs.number.or_default.Statement.{statement}
 use Rattle.numbers.proofs.number.or_default.Tie as tie
 
-enum-known-n : tie.Need-enum-known-n
-enum-known-n c = search needs
-
-enum-told : tie.Need-enum-told
-enum-told c = search needs
-
-enum-told-2 : tie.Need-enum-told-2
-enum-told-2 c = search needs
-
-enum-told-3 : tie.Need-enum-told-3
-enum-told-3 c = search needs
-
 returns : tie.Need-returns
 returns c = back32 (c .before .n .given .0 .0) (c .known-told .given .0 .1) ∙ sym (ap (numberOr (c .before .before .before .args .default)) (c .before .n .given .1))
 
@@ -33,4 +21,6 @@ returns-4 : tie.Need-returns-4
 returns-4 c = toZ-ofZ (c .before .before .fits .default) ∙ sym (ap (numberOr (c .before .before .args .default)) (c .enum-told3 .given .1))
 
 pub or-default-spec : {M : Type 1} → statement M
-or-default-spec = tie.close (tie.spec enum-known-n enum-told enum-told-2 enum-told-3 returns returns-2 returns-3 returns-4)
+or-default-spec =
+    tie.close (tie.spec (λ c. search needs) (λ c. search needs) (λ c. search needs) (λ c. search needs)
+    returns returns-2 returns-3 returns-4)

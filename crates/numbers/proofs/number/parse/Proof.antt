@@ -16,32 +16,11 @@ use Rattle.numbers.proofs.number.parse.Tie as tie
 returns : tie.Need-returns
 returns c = sym (number-none (c .before .before .args .s .now) (c .if1 .taken))
 
-shared-slice-read-c : tie.Need-shared-slice-read-c
-shared-slice-read-c c = search needs
-
-is-sign-requires : tie.Need-is-sign-requires
-is-sign-requires c κs = search needs
-
-sub-after-sign : tie.Need-sub-after-sign
-sub-after-sign c = search needs
-
-part-after-sign-start : tie.Need-part-after-sign-start
-part-after-sign-start c = search needs
-
-part-after-sign-end : tie.Need-part-after-sign-end
-part-after-sign-end c = search needs
-
-after-sign-requires : tie.Need-after-sign-requires
-after-sign-requires c κs = search needs
-
 returns-2 : tie.Need-returns-2
 returns-2 c =
     let i = c .before .before in
     let s = i .before .before .before .before .before .args .s .now in
     c .after-sign .ensures ∙ ap (λ (l : List ℕ). signed (eqb (getD s 0 0) 45) (digitsOf l)) (rest s 1) ∙ sym (number-sign s (omega arith) (sym (i .before .is-sign .ensures) ∙ i .if2 .taken))
-
-after-sign-requires-2 : tie.Need-after-sign-requires-2
-after-sign-requires-2 c κs = search needs
 
 returns-3 : tie.Need-returns-3
 returns-3 c =
@@ -51,15 +30,8 @@ returns-3 c =
 
 pub parse-spec : {M : Type 1} → statement M
 parse-spec =
-    tie.close
-    (tie.spec
-    returns
-    shared-slice-read-c
-    is-sign-requires
-    sub-after-sign
-    part-after-sign-start
-    part-after-sign-end
-    after-sign-requires
-    returns-2
-    after-sign-requires-2
+    tie.close (tie.spec
+    returns (λ c. search needs) (λ c κs. search needs) (λ c. search needs) (λ c. search needs) (λ c. search needs)
+    (λ c κs. search needs)
+    returns-2 (λ c κs. search needs)
     returns-3)

@@ -3,20 +3,14 @@
 use borrow.Author.Tests.{lt-ltb, le-ltb}
 use borrow.Author.Needs.{needs}
 use Rattle.numbers.proofs.IntLaws.{back32}
-use Rattle.numbers.proofs.NumberLaws.{ranged-minus}
+use Rattle.numbers.proofs.NumberLaws.{ranged-neg}
 use Rattle.numbers.proofs.number.with_sign.Statement.{statement}
 use Rattle.numbers.proofs.number.with_sign.Tie as tie
-
-minus-requires : tie.Need-minus-requires
-minus-requires c κs = search needs
 
 returns : tie.Need-returns
 returns c =
     let s = c .before .before in
-    rw (back32 (c .minus .result) (c .minus .ok)) (simp (c .before .if1 .taken, ranged-minus (s .args .v) (s .pre), c .minus .ensures))
-
-cast-t6 : tie.Need-cast-t6
-cast-t6 c = search needs
+    rw (back32 (c .minus .result) (c .minus .ok)) (simp (c .before .if1 .taken, ranged-neg (s .args .v) (s .pre), c .minus .ensures))
 
 returns-2 : tie.Need-returns-2
 returns-2 c =
@@ -29,4 +23,4 @@ returns-3 c =
     simp (c .before .if1 .left, le-ltb (s .args .v) 2147483648 (c .if2 .left))
 
 pub with-sign-spec : {M : Type 1} → statement M
-with-sign-spec = tie.close (tie.spec minus-requires returns cast-t6 returns-2 returns-3)
+with-sign-spec = tie.close (tie.spec (λ c κs. search needs) returns (λ c. search needs) returns-2 returns-3)

@@ -25,36 +25,6 @@ comma d = found d .find .ensures .is ∙ ap (indexOf 44) (rest (s d .args .s .no
 number : (d : tie.After-number-or) → let n = s d .args .at in d .number-or .result ≡ fieldOr (s d .args .default) (take (n + found d .find .result - n) (drop n (s d .args .s .now)))
 number d = simp (toZ-ofZ (s d .fits .default)) at (d .number-or .ensures)
 
-sub-find : tie.Need-sub-find
-sub-find c = search needs
-
-part-find-start : tie.Need-part-find-start
-part-find-start c = search needs
-
-part-find-end : tie.Need-part-find-end
-part-find-end c = search needs
-
-find-requires : tie.Need-find-requires
-find-requires c κs = search needs
-
-add-end : tie.Need-add-end
-add-end c = search needs
-
-sub-number-or : tie.Need-sub-number-or
-sub-number-or c = search needs
-
-part-number-or-start : tie.Need-part-number-or-start
-part-number-or-start c = search needs
-
-part-number-or-end : tie.Need-part-number-or-end
-part-number-or-end c = search needs
-
-number-or-requires : tie.Need-number-or-requires
-number-or-requires c κs = search needs
-
-add-t15 : tie.Need-add-t15
-add-t15 c = search needs
-
 returns : tie.Need-returns
 returns c =
     let n = c .before in
@@ -68,16 +38,6 @@ returns-2 c =
 pub any-from-spec : {M : Type 1} → statement M
 any-from-spec =
     tie.close
-    (tie.spec
-    sub-find
-    part-find-start
-    part-find-end
-    find-requires
-    add-end
-    sub-number-or
-    part-number-or-start
-    part-number-or-end
-    number-or-requires
-    add-t15
-    returns
-    returns-2)
+    (tie.spec (λ c. search needs) (λ c. search needs) (λ c. search needs) (λ c κs. search needs) (λ c. search needs)
+    (λ c. search needs) (λ c. search needs) (λ c. search needs) (λ c κs. search needs) (λ c. search needs)
+    returns returns-2)

@@ -7,19 +7,13 @@ use borrow.Author.Needs.{needs}
 use Rattle.parameters.proofs.field_reader.number_at_place.Statement.{statement}
 use Rattle.parameters.proofs.field_reader.number_at_place.Tie as tie
 
-or-default-requires : tie.Need-or-default-requires
-or-default-requires c κs = search needs
-
 returns : tie.Need-returns
 returns c =
     let d = toZ-ofZ (c .before .before .before .fits .default) in
     rw (back32 (c .or-default .result) (c .or-default .ok)) (past-end _ _ _ (c .before .if1 .taken) (simp d at (c .or-default .ensures)))
 
-any-from-requires : tie.Need-any-from-requires
-any-from-requires c κs = search needs
-
 returns-2 : tie.Need-returns-2
 returns-2 c = simp (toZ-ofZ (c .before .before .before .fits .default)) at (c .any-from .ensures)
 
 pub number-at-place-spec : {M : Type 1} → statement M
-number-at-place-spec = tie.close (tie.spec or-default-requires returns any-from-requires returns-2)
+number-at-place-spec = tie.close (tie.spec (λ c κs. search needs) returns (λ c κs. search needs) returns-2)

@@ -9,17 +9,11 @@ use borrow.Author.Needs.{needs}
 use Rattle.parameters.proofs.params.first_number.Statement.{statement}
 use Rattle.parameters.proofs.params.first_number.Tie as tie
 
-or-default-requires : tie.Need-or-default-requires
-or-default-requires c κs = search needs
-
 returns : tie.Need-returns
 returns c =
     let a = c .before .before .before in
     back32 (c .or-default .result) (c .or-default .ok)
     ∙ number-value (a .args .default) (a .args .s .now) 0 refl (past-end _ _ 0 (omega (arith, c .before .if1 .taken)) (simp (toZ-ofZ (a .fits .default)) at (c .or-default .ensures)))
-
-number-from-requires : tie.Need-number-from-requires
-number-from-requires c κs = search needs
 
 returns-2 : tie.Need-returns-2
 returns-2 c =
@@ -29,4 +23,4 @@ returns-2 c =
     ∙ number-value (a .args .default) (a .args .s .now) 0 refl (simp (toZ-ofZ (a .fits .default)) at (n .ensures))
 
 pub first-number-spec : {M : Type 1} → statement M
-first-number-spec = tie.close (tie.spec or-default-requires returns number-from-requires returns-2)
+first-number-spec = tie.close (tie.spec (λ c κs. search needs) returns (λ c κs. search needs) returns-2)

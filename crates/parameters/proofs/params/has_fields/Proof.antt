@@ -20,20 +20,8 @@ Inv-loop s n wanted₀ i₀ wanted i = (i ≤ length s) × (n + length (fields (
 abbrev μ-loop : tie.MeasureT-loop
 μ-loop s n wanted₀ i₀ wanted i = length s - i
 
-loop-holds : tie.Need-loop-holds Inv-loop μ-loop
-loop-holds c = search needs
-
-shared-slice-read-if2 : tie.Need-shared-slice-read-if2 Inv-loop μ-loop
-shared-slice-read-if2 c = search needs
-
 sub-wanted : tie.Need-sub-wanted Inv-loop μ-loop
 sub-wanted c = omega (arith, ltb-true 1 (c .before .before .before .before .loop .wanted) (c .before .before .if1 .taken))
-
-add-i : tie.Need-add-i Inv-loop μ-loop
-add-i c = search needs
-
-loop-less : tie.Need-loop-less Inv-loop μ-loop
-loop-less c = search needs
 
 loop-again : tie.Need-loop-again Inv-loop μ-loop
 loop-again c =
@@ -55,14 +43,6 @@ returns c =
 
 pub has-fields-spec : {M : Type 1} → statement M
 has-fields-spec =
-    tie.close
-    (tie.spec
-    Inv-loop
-    μ-loop
-    loop-holds
-    shared-slice-read-if2
-    sub-wanted
-    add-i
-    loop-less
-    loop-again
-    returns)
+    tie.close (tie.spec Inv-loop μ-loop (λ c. search needs) (λ c. search needs)
+    sub-wanted (λ c. search needs) (λ c. search needs)
+    loop-again returns)

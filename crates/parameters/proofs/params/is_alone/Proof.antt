@@ -20,23 +20,8 @@ none (a ∷ s) h = absurd (omega arith)
 returns : tie.Need-returns
 returns c = none (c .before .before .args .s .now) (c .if1 .taken)
 
-shared-slice-read-is-mark : tie.Need-shared-slice-read-is-mark
-shared-slice-read-is-mark c = search needs
-
-is-mark-requires : tie.Need-is-mark-requires
-is-mark-requires c κs = search needs
-
 returns-2 : tie.Need-returns-2
 returns-2 c = c .is-mark .ensures ∙ alone-one (c .before .before .before .before .before .args .s .now) (c .before .before .if2 .taken)
-
-shared-slice-read-is-mark-2 : tie.Need-shared-slice-read-is-mark-2
-shared-slice-read-is-mark-2 c = search needs
-
-is-mark-requires-2 : tie.Need-is-mark-requires-2
-is-mark-requires-2 c κs = search needs
-
-shared-slice-read-result : tie.Need-shared-slice-read-result
-shared-slice-read-result c = search needs
 
 returns-3 : tie.Need-returns-3
 returns-3 c =
@@ -45,13 +30,6 @@ returns-3 c =
 
 pub is-alone-spec : {M : Type 1} → statement M
 is-alone-spec =
-    tie.close
-    (tie.spec
-    returns
-    shared-slice-read-is-mark
-    is-mark-requires
-    returns-2
-    shared-slice-read-is-mark-2
-    is-mark-requires-2
-    shared-slice-read-result
+    tie.close (tie.spec returns (λ c. search needs) (λ c κs. search needs)
+    returns-2 (λ c. search needs) (λ c κs. search needs) (λ c. search needs)
     returns-3)

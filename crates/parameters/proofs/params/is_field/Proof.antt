@@ -13,9 +13,6 @@ use borrow.Author.Needs.{needs}
 use Rattle.parameters.proofs.params.is_field.Statement.{statement}
 use Rattle.parameters.proofs.params.is_field.Tie as tie
 
-is-alone-requires : tie.Need-is-alone-requires
-is-alone-requires c κs = search needs
-
 told : (c : tie.Then1) → alone (c .before .before .before .args .s .now) ≡ true
 told c = sym (c .before .is-alone .ensures) ∙ c .if1 .taken
 
@@ -24,12 +21,6 @@ shared-slice-read-result c = let t = c .before in omega (arith, alone-some (t .b
 
 returns : tie.Need-returns
 returns c = let a = c .before .before .before .before .args in alone-exactly (a .s .now) (a .b) (told (c .before))
-
-type-at-requires : tie.Need-type-at-requires
-type-at-requires c κs = search needs
-
-shared-slice-read-result-2 : tie.Need-shared-slice-read-result-2
-shared-slice-read-result-2 c = search needs
 
 returns-2 : tie.Need-returns-2
 unfolding exactlyAt exactly typeAt
@@ -47,12 +38,6 @@ returns-3 c =
 
 pub is-field-spec : {M : Type 1} → statement M
 is-field-spec =
-    tie.close
-    (tie.spec
-    is-alone-requires
-    shared-slice-read-result
-    returns
-    type-at-requires
-    shared-slice-read-result-2
-    returns-2
-    returns-3)
+    tie.close (tie.spec (λ c κs. search needs)
+    shared-slice-read-result returns (λ c κs. search needs) (λ c. search needs)
+    returns-2 returns-3)

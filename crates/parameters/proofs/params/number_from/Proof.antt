@@ -1,7 +1,7 @@
 -- `crate::params::number_from` meets its contract: digits up to the end or a comma, or any field. Invariant: `Ran`.
 -- Measure: s's length less end.
 -- Assumes nothing.
-use mathlib.Core.Path.{_≡_, refl, sym, _∙_}
+use mathlib.Core.Path.{_≡_, sym, _∙_}
 use mathlib.Core.Bool.{true}
 use Prim.Native.Nat.{ℕ, _+_, _-_, _*_, _<_, _≤_}
 use native.Mathlib.Omega.{arith}
@@ -45,37 +45,8 @@ ran d =
 cast : (d : tie.Then2 Inv-loop μ-loop) → let n = at-loop d .loop .value * 10 + byte d - 48 in toZ w32 n ≡ pos n
 cast d = toZ-pos w32 {n = at-loop d .loop .value * 10 + byte d - 48} (omega (arith, ran d .small))
 
-loop-holds : tie.Need-loop-holds Inv-loop μ-loop
-loop-holds c =
-    let h = c .if1 .taken in
-    (record { low = omega arith; high = omega arith; small = omega arith; place = refl; digits = refl }, h)
-
-shared-slice-read-is-digit : tie.Need-shared-slice-read-is-digit Inv-loop μ-loop
-shared-slice-read-is-digit c = search needs
-
-is-digit-requires : tie.Need-is-digit-requires Inv-loop μ-loop
-is-digit-requires c κs = search needs
-
-mul-value : tie.Need-mul-value Inv-loop μ-loop
-mul-value c = omega (arith, small c .0)
-
-shared-slice-read-value : tie.Need-shared-slice-read-value Inv-loop μ-loop
-shared-slice-read-value c = search needs
-
-cast-value : tie.Need-cast-value Inv-loop μ-loop
-cast-value c = omega (arith, small (c .before) .2)
-
 add-value : tie.Need-add-value Inv-loop μ-loop
 add-value c = let n = small (c .before) in omega (arith, n .0, n .2)
-
-sub-value : tie.Need-sub-value Inv-loop μ-loop
-sub-value c = omega (arith, small (c .before) .1)
-
-add-end : tie.Need-add-end Inv-loop μ-loop
-add-end c = search needs
-
-cast-t19 : tie.Need-cast-t19 Inv-loop μ-loop
-cast-t19 c = omega (arith, ran (c .before .before) .small)
 
 returns : tie.Need-returns Inv-loop μ-loop
 returns c = let d = c .before .before in rw (cast d) (plain-end _ _ _ _ (ran d) _ (omega (arith, at-loop d .loop .inv .0 .low)) (c .if3 .taken))
@@ -83,28 +54,16 @@ returns c = let d = c .before .before in rw (cast d) (plain-end _ _ _ _ (ran d) 
 inside : (d : tie.Else3 Inv-loop μ-loop) → let l = at-loop (d .before .before) in l .loop .end + 1 < length (l .before .before .before .args .s .now)
 inside d = omega (arith, at-loop (d .before .before) .loop .inv .1, d .if3 .left)
 
-shared-slice-read-if4 : tie.Need-shared-slice-read-if4 Inv-loop μ-loop
-shared-slice-read-if4 c = inside (c .before)
-
 cast-t21 : tie.Need-cast-t21 Inv-loop μ-loop
 cast-t21 c = omega (arith, ran (c .before .before .before .before) .small)
-
-add-t22 : tie.Need-add-t22 Inv-loop μ-loop
-add-t22 c = search needs
 
 returns-2 : tie.Need-returns-2 Inv-loop μ-loop
 returns-2 c =
     let d = c .before .before .before .before in
     rw (cast d) (plain-comma _ _ _ _ (ran d) _ (omega (arith, at-loop d .loop .inv .0 .low)) (inside (c .before .before)) (c .if4 .taken))
 
-loop-less : tie.Need-loop-less Inv-loop μ-loop
-loop-less c = search needs
-
 loop-again : tie.Need-loop-again Inv-loop μ-loop
 loop-again c = let d = c .before .before .before .before in (ran d, inside (c .before .before))
-
-field-from-requires : tie.Need-field-from-requires Inv-loop μ-loop
-field-from-requires c κs = search needs
 
 returns-3 : tie.Need-returns-3 Inv-loop μ-loop
 returns-3 c = simp (toZ-ofZ (c .before .before .before .fits .default)) at (c .field-from .ensures)
@@ -112,25 +71,12 @@ returns-3 c = simp (toZ-ofZ (c .before .before .before .fits .default)) at (c .f
 pub number-from-spec : {M : Type 1} → statement M
 number-from-spec =
     tie.close
-    (tie.spec
-    Inv-loop
-    μ-loop
-    loop-holds
-    shared-slice-read-is-digit
-    is-digit-requires
-    mul-value
-    shared-slice-read-value
-    cast-value
-    add-value
-    sub-value
-    add-end
-    cast-t19
-    returns
-    shared-slice-read-if4
-    cast-t21
-    add-t22
-    returns-2
-    loop-less
-    loop-again
-    field-from-requires
+    (tie.spec Inv-loop μ-loop (λ c. search needs) (λ c. search needs) (λ c κs. search needs) (λ c. search needs)
+    (λ c. search needs)
+    (λ c. omega (arith, small (c .before) .2)) add-value (λ c. omega (arith, small (c .before) .1))
+    (λ c. search needs)
+    (λ c. omega (arith, ran (c .before .before) .small)) returns (λ c. search needs)
+    cast-t21 (λ c. search needs)
+    returns-2 (λ c. search needs)
+    loop-again (λ c κs. search needs)
     returns-3)

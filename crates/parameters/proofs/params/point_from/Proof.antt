@@ -6,12 +6,6 @@ use borrow.Author.Needs.{needs}
 use Rattle.parameters.proofs.params.point_from.Statement.{statement}
 use Rattle.parameters.proofs.params.point_from.Tie as tie
 
-number-from-requires : tie.Need-number-from-requires
-number-from-requires c κs = search needs
-
-number-from-requires-2 : tie.Need-number-from-requires-2
-number-from-requires-2 c κs = search needs
-
 returns : tie.Need-returns
 returns c =
     let x = c .before .before .before .number-from in
@@ -21,4 +15,4 @@ returns c =
     (point-is (s .s .now) (s .at) (x .result) (y .result) (x .ensures) (y .ensures))
 
 pub point-from-spec : {M : Type 1} → statement M
-point-from-spec = tie.close (tie.spec number-from-requires number-from-requires-2 returns)
+point-from-spec = tie.close (tie.spec (λ c κs. search needs) (λ c κs. search needs) returns)

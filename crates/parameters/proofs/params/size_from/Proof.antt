@@ -7,12 +7,6 @@ use borrow.Author.Needs.{needs}
 use Rattle.parameters.proofs.params.size_from.Statement.{statement}
 use Rattle.parameters.proofs.params.size_from.Tie as tie
 
-number-from-requires : tie.Need-number-from-requires
-number-from-requires c κs = search needs
-
-max-requires : tie.Need-max-requires
-max-requires c κs = search needs
-
 returns : tie.Need-returns
 returns c =
     let n = c .before .before .number-from in
@@ -23,4 +17,4 @@ returns c =
     (simp (back32 (n .result .value) (c .before .struct-told .given .0 .1)) at (c .max .ensures)))
 
 pub size-from-spec : {M : Type 1} → statement M
-size-from-spec = tie.close (tie.spec number-from-requires max-requires returns)
+size-from-spec = tie.close (tie.spec (λ c κs. search needs) (λ c κs. search needs) returns)

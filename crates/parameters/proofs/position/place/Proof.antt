@@ -16,35 +16,20 @@ across d =
     let s = d .before .before in
     simp (toZ-ofZ (s .fits .x), back32 (s .args .reference .x) (d .before .struct-told .given .0 .1)) at (d .checked-add .ensures)
 
-known : (d : tie.After-known-told) → checked (d .before .before .before .before .before .args .x +ℤ d .before .before .before .before .before .args .reference .x) ≡ Fits (d .before .across .given .0 .0)
+abbrev entry : tie.After-known-told → tie.Start
+entry d = d .before .before .before .before .before
+
+known : (d : tie.After-known-told) → let a = entry d .args in checked (a .x +ℤ a .reference .x) ≡ Fits (d .before .across .given .0 .0)
 known d = sym (across (d .before .before .before)) ∙ d .before .across .given .1
 
-down : (d : tie.After-checked-add2) → d .checked-add2 .result ≡ checked (d .before .before .before .before .before .before .before .args .y +ℤ d .before .before .before .before .before .before .before .args .reference .y)
+down : (d : tie.After-checked-add2) → let a = entry (d .before .before) .args in d .checked-add2 .result ≡ checked (a .y +ℤ a .reference .y)
 down d =
-    let s = d .before .before .before .before .before .before .before in
+    let s = entry (d .before .before) in
     simp (toZ-ofZ (s .fits .y), back32 (s .args .reference .y) (d .before .struct-told2 .given .1 .0 .1)) at (d .checked-add2 .ensures)
-
-checked-add-requires : tie.Need-checked-add-requires
-checked-add-requires c κs = search needs
-
-enum-known-across : tie.Need-enum-known-across
-enum-known-across c = search needs
-
-enum-told : tie.Need-enum-told
-enum-told c = search needs
 
 returns : tie.Need-returns
 unfolding placed
 returns c = simp (sym (across (c .before .before)) ∙ c .enum-told .given .1)
-
-checked-add-requires-2 : tie.Need-checked-add-requires-2
-checked-add-requires-2 c κs = search needs
-
-enum-known-down : tie.Need-enum-known-down
-enum-known-down c = search needs
-
-enum-told-2 : tie.Need-enum-told-2
-enum-told-2 c = search needs
 
 returns-2 : tie.Need-returns-2
 unfolding placed
@@ -59,14 +44,6 @@ returns-3 c =
 
 pub place-spec : {M : Type 1} → statement M
 place-spec =
-    tie.close
-    (tie.spec
-    checked-add-requires
-    enum-known-across
-    enum-told
-    returns
-    checked-add-requires-2
-    enum-known-down
-    enum-told-2
-    returns-2
-    returns-3)
+    tie.close (tie.spec (λ c κs. search needs) (λ c. search needs) (λ c. search needs)
+    returns (λ c κs. search needs) (λ c. search needs) (λ c. search needs)
+    returns-2 returns-3)

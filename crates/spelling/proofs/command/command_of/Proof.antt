@@ -13,21 +13,6 @@ use borrow.Author.Needs.{needs}
 use Rattle.spelling.proofs.command.command_of.Statement.{statement}
 use Rattle.spelling.proofs.command.command_of.Tie as tie
 
-byte-at-requires : tie.Need-byte-at-requires
-byte-at-requires c κs = search needs
-
-is-epl-reference-point-requires : tie.Need-is-epl-reference-point-requires
-is-epl-reference-point-requires c κs = search needs
-
-byte-at-requires-2 : tie.Need-byte-at-requires-2
-byte-at-requires-2 c κs = search needs
-
-line-command-requires : tie.Need-line-command-requires
-line-command-requires c κs = search needs
-
-is-epl-print-command-requires : tie.Need-is-epl-print-command-requires
-is-epl-print-command-requires c κs = search needs
-
 returns : tie.Need-returns
 returns c =
     let m = c .before in
@@ -118,22 +103,7 @@ returns-12 c =
 
 pub command-of-spec : {M : Type 1} → statement M
 command-of-spec =
-    tie.close
-    (tie.spec
-    byte-at-requires
-    is-epl-reference-point-requires
-    byte-at-requires-2
-    line-command-requires
-    is-epl-print-command-requires
-    returns
-    returns-2
-    returns-3
-    returns-4
-    returns-5
-    returns-6
-    returns-7
-    returns-8
-    returns-9
-    returns-10
-    returns-11
+    tie.close (tie.spec
+    (λ c κs. search needs) (λ c κs. search needs) (λ c κs. search needs) (λ c κs. search needs) (λ c κs. search needs)
+    returns returns-2 returns-3 returns-4 returns-5 returns-6 returns-7 returns-8 returns-9 returns-10 returns-11
     returns-12)

@@ -5,19 +5,10 @@ use borrow.Author.Needs.{needs}
 use Rattle.spelling.proofs.command.is_epl_print_command.Statement.{statement}
 use Rattle.spelling.proofs.command.is_epl_print_command.Tie as tie
 
-byte-at-requires : tie.Need-byte-at-requires
-byte-at-requires c κs = search needs
-
-tail-requires : tie.Need-tail-requires
-tail-requires c κs = search needs
-
-all-digits-requires : tie.Need-all-digits-requires
-all-digits-requires c κs = search needs
-
 returns : tie.Need-returns
 unfolding isPrint
 returns c = simp (c .all-digits .ensures, c .before .tail .ensures, c .before .before .byte-at .ensures)
 
 pub is-epl-print-command-spec : {M : Type 1} → statement M
 is-epl-print-command-spec =
-    tie.close (tie.spec byte-at-requires tail-requires all-digits-requires returns)
+    tie.close (tie.spec (λ c κs. search needs) (λ c κs. search needs) (λ c κs. search needs) returns)

@@ -5,19 +5,10 @@ use borrow.Author.Needs.{needs}
 use Rattle.spelling.proofs.command.is_epl_reference_point.Statement.{statement}
 use Rattle.spelling.proofs.command.is_epl_reference_point.Tie as tie
 
-byte-at-requires : tie.Need-byte-at-requires
-byte-at-requires c κs = search needs
-
-byte-at-requires-2 : tie.Need-byte-at-requires-2
-byte-at-requires-2 c κs = search needs
-
-is-digit-requires : tie.Need-is-digit-requires
-is-digit-requires c κs = search needs
-
 returns : tie.Need-returns
 unfolding isReference
 returns c = simp (c .is-digit .ensures, c .before .byte-at2 .ensures, c .before .before .byte-at .ensures)
 
 pub is-epl-reference-point-spec : {M : Type 1} → statement M
 is-epl-reference-point-spec =
-    tie.close (tie.spec byte-at-requires byte-at-requires-2 is-digit-requires returns)
+    tie.close (tie.spec (λ c κs. search needs) (λ c κs. search needs) (λ c κs. search needs) returns)

@@ -18,12 +18,6 @@ x-is : (d : tie.After-field-from) → d .field-from .result .value ≡ fieldOr (
 unfolding numberAt
 x-is d = number-value (pos 0) (d .before .before .args .params .now) 0 refl (d .field-from .ensures)
 
-field-from-requires : tie.Need-field-from-requires
-field-from-requires c κs = search needs
-
-find-requires : tie.Need-find-requires
-find-requires c κs = search needs
-
 returns : tie.Need-returns
 unfolding referenceOf
 returns c =
@@ -32,12 +26,6 @@ returns c =
     let a = d .before .before .args in
     rw (back32 (d .field-from .result .value) (f .before .struct-told .given .0 .1), back32 (a .reference .y) (c .struct-told2 .given .1 .0 .1))
     (simp (x-is d, eq-eqb (indexOf 44 (a .params .now)) (length (a .params .now)) (sym (f .find .ensures .is) ∙ c .before .if1 .taken)))
-
-after-field-requires : tie.Need-after-field-requires
-after-field-requires c κs = search needs
-
-number-or-requires : tie.Need-number-or-requires
-number-or-requires c κs = search needs
 
 returns-2 : tie.Need-returns-2
 unfolding referenceOf
@@ -51,11 +39,6 @@ returns-2 c =
 
 pub parse-epl-reference-spec : {M : Type 1} → statement M
 parse-epl-reference-spec =
-    tie.close
-    (tie.spec
-    field-from-requires
-    find-requires
-    returns
-    after-field-requires
-    number-or-requires
+    tie.close (tie.spec (λ c κs. search needs) (λ c κs. search needs)
+    returns (λ c κs. search needs) (λ c κs. search needs)
     returns-2)

@@ -1,5 +1,5 @@
--- What one pass takes is what `Options` says of each letter: the last value, the last number, the last level.
--- Assumes nothing.
+-- What one pass takes is what `Options` says of each letter: the last value (`last-any`), the last number
+-- (`last-number`), the last level (`last-level`). The pass is in OptionsLaws. Assumes nothing.
 use mathlib.Core.Path.{_≡_, refl, sym, ap, _∙_}
 use mathlib.Core.Bool.{Bool, true, false, cond, _&&_, and-true, and-false}
 use mathlib.Core.List.{List, [], _∷_}
@@ -33,21 +33,21 @@ signed-held : (o : Option ℕ) → signed false o ≡ numberOf (held o)
 signed-held none = refl
 signed-held (some n) = test (ltb n 2147483648) (λ e. simp e) (λ e. simp e)
 
-unsigned : (x : ℕ) (v : List ℕ) → (x ≡ 45 → ⊥) → (x ≡ 43 → ⊥) → numberSpelled (x ∷ v) ≡ numberOf (magnitude (x ∷ v))
+spelled-unsigned : (x : ℕ) (v : List ℕ) → (x ≡ 45 → ⊥) → (x ≡ 43 → ⊥) → numberSpelled (x ∷ v) ≡ numberOf (magnitude (x ∷ v))
 unfolding numberSpelled
-unsigned x v p q = simp (ne-eqb x 45 p, ne-eqb x 43 q) (signed-held (digitsOf (x ∷ v)))
+spelled-unsigned x v p q = simp (ne-eqb x 45 p, ne-eqb x 43 q) (signed-held (digitsOf (x ∷ v)))
 
 good-nil : Good []
 unfolding numberSpelled
 good-nil = record { number = refl; level = refl }
 
-letter-high : (x : ℕ) → isLetter x ≡ true → 64 < x
-letter-high x = or-cases (within 65 90 x) (within 97 122 x) (λ e. omega (arith, within-low 65 90 x e)) (λ e. omega (arith, within-low 97 122 x e))
+letter-low : (x : ℕ) → isLetter x ≡ true → 64 < x
+letter-low x = or-cases (within 65 90 x) (within 97 122 x) (λ e. omega (arith, within-low 65 90 x e)) (λ e. omega (arith, within-low 97 122 x e))
 
 good-letter : (x : ℕ) → isLetter x ≡ true → Good (x ∷ [])
 good-letter x e =
-    let h = letter-high x e in
-    record { number = unsigned x [] (λ d. omega arith) (λ d. omega arith); level = refl }
+    let h = letter-low x e in
+    record { number = spelled-unsigned x [] (λ d. omega arith) (λ d. omega arith); level = refl }
 
 digit-level : (x : ℕ) (v : List ℕ) → x < 58 → isLevel (x ∷ v) ≡ false
 digit-level x v h = simp (ne-eqb x 76 (λ d. omega arith), ne-eqb x 77 (λ d. omega arith), ne-eqb x 81 (λ d. omega arith), ne-eqb x 72 (λ d. omega arith))
@@ -60,7 +60,7 @@ good-by : (x : ℕ) (t : List ℕ) (b : Bool) → isDigit x ≡ b → Good (cond
 good-by x t true e =
     let l = within-low 48 57 x e in
     let h = within-high 48 57 x e in
-    record { number = unsigned x (front isDigit t) (λ d. omega arith) (λ d. omega arith); level = level-alone x (front isDigit t) (omega arith) }
+    record { number = spelled-unsigned x (front isDigit t) (λ d. omega arith) (λ d. omega arith); level = level-alone x (front isDigit t) (omega arith) }
 good-by x t false e = good-nil
 
 good-digits : (t : List ℕ) → Good (front isDigit t)
@@ -71,21 +71,21 @@ data AllGood : List Setting → Type 0 where
   nil : AllGood []
   more : (o : Setting) (os : List Setting) → Good (o .value) → AllGood os → AllGood (o ∷ os)
 
-one-by : (x : ℕ) (a : Bool) → AllGood (cond a (record { letter = x; value = [] } ∷ []) [])
-one-by x true = more _ _ good-nil nil
-one-by x false = nil
+good-one : (x : ℕ) (a : Bool) → AllGood (cond a (record { letter = x; value = [] } ∷ []) [])
+good-one x true = more _ _ good-nil nil
+good-one x false = nil
 
-two-by : (x y : ℕ) (s : List ℕ) (a b : Bool) → isLetter y ≡ b → AllGood (optionsOf s) → AllGood (optionsOf (y ∷ s))
+good-two : (x y : ℕ) (s : List ℕ) (a b : Bool) → isLetter y ≡ b → AllGood (optionsOf s) → AllGood (optionsOf (y ∷ s))
     → AllGood (cond a (cond b (record { letter = x; value = y ∷ [] } ∷ optionsOf s) (record { letter = x; value = front isDigit (y ∷ s) } ∷ optionsOf (y ∷ s))) (optionsOf (y ∷ s)))
-two-by x y s true true e m n = more _ _ (good-letter y e) m
-two-by x y s true false e m n = more _ _ (good-digits (y ∷ s)) n
-two-by x y s false b e m n = n
+good-two x y s true true e m n = more _ _ (good-letter y e) m
+good-two x y s true false e m n = more _ _ (good-digits (y ∷ s)) n
+good-two x y s false b e m n = n
 
 all-good : (s : List ℕ) → AllGood (optionsOf s)
 unfolding optionsOf
 all-good [] = nil
-all-good (x ∷ []) = one-by x (isLetter x)
-all-good (x ∷ y ∷ s) = two-by x y s (isLetter x) (isLetter y) refl (all-good s) (all-good (y ∷ s))
+all-good (x ∷ []) = good-one x (isLetter x)
+all-good (x ∷ y ∷ s) = good-two x y s (isLetter x) (isLetter y) refl (all-good s) (all-good (y ∷ s))
 
 last-cons : (b : Bool) (x v : List ℕ) (vs : List (List ℕ)) → lastOr v (cond b (x ∷ vs) vs) ≡ lastOr (cond b x v) vs
 last-cons true x v vs = refl
@@ -155,17 +155,17 @@ truncate-by false x v z h = h
 -- of the record that is taken of s
 module _ (s : List ℕ) {r : Options} (e : r ≡ allTaken noOptions (optionsOf s)) where
   module _ (p : ℕ) (f : Options → ℕ) (none : f noOptions ≡ 2147483650) where
-    start : SaysNumber (f noOptions) []
+    says-none : SaysNumber (f noOptions) []
     unfolding numberSpelled
-    start = rw none refl
+    says-none = rw none refl
 
     pub last-any : ((k : Options) (b n a : ℕ) → f (taken k b n a) ≡ cond (eqb b p) n (f k)) → numberSpelled (lastOf wanted.Any p (optionsOf s)) ≡ numberOf (f r)
     last-any h =
-        rw e (all-last wanted.Any p f SaysNumber (λ k o v g i. rw (h k (o .letter) (magnitude (o .value)) (aloneOf (o .value))) (any-by (eqb (o .letter) p) (o .value) v (f k) g i)) (optionsOf s) noOptions [] (all-good s) start)
+        rw e (all-last wanted.Any p f SaysNumber (λ k o v g i. rw (h k (o .letter) (magnitude (o .value)) (aloneOf (o .value))) (any-by (eqb (o .letter) p) (o .value) v (f k) g i)) (optionsOf s) noOptions [] (all-good s) says-none)
 
     pub last-number : ((k : Options) (b n a : ℕ) → f (taken k b n a) ≡ cond (eqb b p) (numberOver n (f k)) (f k)) → numberSpelled (lastOf wanted.Number p (optionsOf s)) ≡ numberOf (f r)
     last-number h =
-        rw e (all-last wanted.Number p f SaysNumber (λ k o v g i. rw (h k (o .letter) (magnitude (o .value)) (aloneOf (o .value))) (number-by (eqb (o .letter) p) (o .value) v (f k) g i)) (optionsOf s) noOptions [] (all-good s) start)
+        rw e (all-last wanted.Number p f SaysNumber (λ k o v g i. rw (h k (o .letter) (magnitude (o .value)) (aloneOf (o .value))) (number-by (eqb (o .letter) p) (o .value) v (f k) g i)) (optionsOf s) noOptions [] (all-good s) says-none)
 
   pub last-level : levelByte (r .level) ≡ levelOf s
   unfolding levelOf

@@ -1,6 +1,5 @@
--- Digits alone are a number field as they stand: their own trim, no sign; and a run of them read one after the other up
--- to a comma.
--- Assumes nothing.
+-- Digits alone are a number field as they stand (`field-digits`): their own trim, no sign. A run of them is read one
+-- after the other up to a comma (`index-digit`, `value-digit`). Other numbers are in NumberLaws. Assumes nothing.
 use mathlib.Core.Path.{_≡_, refl, ap, _∙_}
 use mathlib.Core.Bool.{true, false}
 use mathlib.Core.List.{List, [], _∷_, _++_, append-assoc}
