@@ -66,7 +66,7 @@ typedef struct laddertick_walk {
 
 /* What an answer is. 1 to 16 are elements: of the label that is being drawn, in file order. */
 enum {
-    LADDERTICK_PRINT = 0, /* the pending elements are a label: `count` */
+    LADDERTICK_PRINT = 0, /* the pending elements are a label: `count`, `sets`, `copies` */
     LADDERTICK_TEXT = 1,
     LADDERTICK_BOX = 2, /* lines are boxes */
     LADDERTICK_DIAGONAL = 3,
@@ -128,6 +128,8 @@ typedef struct laddertick_answer {
     uint8_t number;             /* refusal: its number */
     size_t place;               /* refusal: its place */
     size_t count;               /* print: how many elements */
+    int32_t sets;               /* print: label sets and copies of each label, as the print line says them, 0 or more; each 1 where the line has none or it is */
+    int32_t copies;             /* beyond 32 bits */
     laddertick_walk next;       /* for the next step */
     laddertick_element element; /* an element, of the same kind; of any other answer every field of it is 0 */
 } laddertick_answer;

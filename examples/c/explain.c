@@ -3,7 +3,7 @@
  *
  *     explain FILE
  *
- * Each label is a line with its count, then a line for each element. Elements behind the last print line are no label: a warning on standard error tells how
+ * Each label is a line with its element count, sets and copies, then a line for each element. Elements behind the last print line are no label: a warning on standard error tells how
  * many there are. A refused file is explained on standard error, and nothing else is printed.
  */
 #include <inttypes.h>
@@ -78,11 +78,12 @@ static void explain(const char *name, bytes input, laddertick_element e, size_t 
     fputc('\n', stdout);
 }
 
-/* The elements of a label of n, walked again from where its first one stands. Clears cannot be among them. */
-static void explain_label(const char *name, bytes input, laddertick_walk walk, size_t label, size_t n)
+/* A label by its print, and its elements, walked again from where the first one stands. Clears cannot be among them. */
+static void explain_label(const char *name, bytes input, laddertick_walk walk, size_t label, laddertick_answer print)
 {
-    printf("label %zu: %zu %s\n", label, n, n == 1 ? "element" : "elements");
-    for (size_t i = 1; i <= n; i++) {
+    printf("label %zu: %zu %s, %" PRId32 " %s, %" PRId32 " %s\n", label, print.count, print.count == 1 ? "element" : "elements", print.sets,
+           print.sets == 1 ? "set" : "sets", print.copies, print.copies == 1 ? "copy" : "copies");
+    for (size_t i = 1; i <= print.count; i++) {
         laddertick_answer a = laddertick_step(input.at, input.len, walk);
         explain(name, input, a.element, i);
         walk = a.next;
@@ -104,7 +105,7 @@ static laddertick_answer walk_file(const char *name, bytes input, int out, size_
         case LADDERTICK_PRINT:
             ++*labels;
             if (out)
-                explain_label(name, input, first, *labels, a.count);
+                explain_label(name, input, first, *labels, a);
             first = walk;
             break;
         case LADDERTICK_CLEAR:

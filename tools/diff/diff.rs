@@ -39,6 +39,7 @@ fn main() {
     let by_number: Vec<_> = (1..=14).chain([19]).map(|n| format!("{n}: {}", count(&run.refused[n]))).collect();
     eprintln!("refused by number: {}", by_number.join(", "));
     eprintln!("with LE lines: {}", count(&run.exclusive_or));
+    eprintln!("with print lines of two counts: {}", count(&run.two_counts));
     eprintln!("with fields that the Rust has not: {}", count(&run.fields));
     eprintln!("with elements pending at the end: {}; of these with labels before them: {}", count(&run.pending[0]), count(&run.pending[1]));
     let (cases, differences, accepted) = (count(&run.cases), count(&run.differences), count(&run.accepted));
@@ -62,6 +63,8 @@ struct Run {
     accepted: AtomicUsize,
     /// With `LE` lines, which the Rust was asked about under other letters.
     exclusive_or: AtomicUsize,
+    /// With print lines of two counts, the second of which was cut from the Rust's copy.
+    two_counts: AtomicUsize,
     /// With fields that the Rust has not, which were left out of the frames and held to the definition.
     fields: AtomicUsize,
     /// With elements pending at the end; of these with labels that were printed.
@@ -95,6 +98,9 @@ impl Run {
         let (expected, cause) = masked::answer(input);
         if !masked::exclusive_or(input).is_empty() {
             self.exclusive_or.fetch_add(1, Relaxed);
+        }
+        if !masked::copies(input).is_empty() {
+            self.two_counts.fetch_add(1, Relaxed);
         }
         match &expected {
             Answer::Refused(number, _) => self.refused[*number as usize].fetch_add(1, Relaxed),

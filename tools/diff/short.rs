@@ -62,6 +62,8 @@ pub const SETTINGS: &[Setting] = &[
     bytes(BOX, b"R1,\n-P", BOX),
     bytes(BOX, b"RN2 ,\n", BOX),
     bytes(BOX, b"P1,\r\nN", BOX),
+    bytes(b"LO,,,\nP", b"1,0 +P", b"\nLO1"),
+    bytes(b"LO,,,\nP214748", b"3678,4", b"\nP1\nLO,,,\nP"),
     bytes(b"", b"LOSW,\n", b""),
     bytes(b"", b"LEO,\n ", b""),
     tokens(BOX, [b"LE", b"GW1,2,2,1,", b"\n", b"\xc2\xa0", b",", b"\""], b",3,4\n"),

@@ -23,7 +23,9 @@ pub fn walked(input: &[u8], expected: &Answer) -> Result<(), String> {
             0 => {
                 let count = take(&mut rest.count);
                 let whole = count > 0 && count == walk.pending && count == pending.len();
-                put_line(&mut listing, &[&[0][..], &number(count as i32)].concat());
+                let mut label = [&[0][..], &number(count as i32)].concat();
+                numbers(&mut label, [&mut rest.sets, &mut rest.copies]);
+                put_line(&mut listing, &label);
                 pending.drain(..).for_each(|frame: Vec<u8>| put_line(&mut listing, &frame));
                 (whole && next.pending == 0 && further, None)
             }

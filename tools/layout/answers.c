@@ -50,7 +50,7 @@ static const one CASES[] = {
     {"b1,2,M,m3\"hello\"\n", ELEMENT(15, 17, .x = 101, .y = 202, .mode = 3, .data_start = 29 + 10, .data_len = 5)},
     {"B1,2,3,UE0,4,5,6,B,\"hello\"\n",
      ELEMENT(16, 27, .rotation = 3, .line = 1, .x = 101, .y = 202, .width = 4, .height = 6, .data_start = 29 + 20, .data_len = 5)},
-    {"P5\n", {.kind = 0, .count = 2, .next = {100, 200, 0, 32}}},
+    {"P5,6\n", {.kind = 0, .count = 2, .sets = 5, .copies = 6, .next = {100, 200, 0, 34}}},
     {"", {.kind = 18, .next = {100, 200, 2, 29}}},
     {"N\n", {.kind = 17, .next = {0, 0, 0, 31}}},
     {"B1,2,3,1D,4,5,6,B,\"hello\"\n", {.kind = 255, .number = 7, .place = 29, .next = {100, 200, 2, 29}}},
@@ -122,13 +122,13 @@ static void steps(void)
 
 static void writes(void)
 {
-    static const char LISTING[] = "0000000001\n020000000f0000001a0000001e000000040000000400\n";
-    uint8_t out[64];
+    static const char LISTING[] = "00000000010000000100000001\n020000000f0000001a0000001e000000040000000400\n";
+    uint8_t out[80];
     input = (const uint8_t *)"R10,20\nLO5,6,30,4\nP1\n";
     input_len = 21;
-    written("list into 55 bytes", laddertick_list(input, input_len, out, 55), (laddertick_written){15, 56});
-    written("list into 56 bytes", laddertick_list(input, input_len, out, 56), (laddertick_written){0, 56});
-    bytes("list", out, LISTING, 56);
+    written("list into 71 bytes", laddertick_list(input, input_len, out, 71), (laddertick_written){15, 72});
+    written("list into 72 bytes", laddertick_list(input, input_len, out, 72), (laddertick_written){0, 72});
+    bytes("list", out, LISTING, 72);
     input = (const uint8_t *)" N \r\nab\377def";
     input_len = 11;
     written("normalise into 8 bytes", laddertick_normalise(input, input_len, out, 8), (laddertick_written){15, 9});

@@ -8,7 +8,7 @@ define void @laddertick_start(ptr noalias sret([24 x i8]) align 8 %to) {
   ret void
 }
 
-define void @laddertick_step(ptr noalias sret([168 x i8]) align 8 %to, ptr %input, i64 %len, ptr byval([24 x i8]) align 8 %walk) {
+define void @laddertick_step(ptr noalias sret([176 x i8]) align 8 %to, ptr %input, i64 %len, ptr byval([24 x i8]) align 8 %walk) {
   %s = alloca %slice, align 8
   call void @slice_of(ptr %s, ptr %input, i64 %len)
   call void @inner_step(ptr %to, ptr %s, ptr %walk)

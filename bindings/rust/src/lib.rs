@@ -25,7 +25,7 @@ mod write;
 
 pub use element::{BarMode, Bars, Colour, Element, Kind, QrLevel, Scale};
 pub use refused::Refused;
-pub use walk::{labels, steps, Label, Labels, Step, Steps, Unprinted};
+pub use walk::{labels, steps, Label, Labels, Print, Step, Steps, Unprinted};
 use write::write;
 
 /// The longest input; a longer one is refused 14.

@@ -55,6 +55,8 @@ pub struct Answer {
     pub number: u8,
     pub place: usize,
     pub count: usize,
+    pub sets: i32,
+    pub copies: i32,
     pub next: Walk,
     pub element: Element,
 }

@@ -9,8 +9,18 @@ pub enum Step<'a> {
     Element(Element<'a>),
     /// The elements since the last clear or print are dropped.
     Clear,
-    /// They are a label: how many.
-    Print(usize),
+    /// They are a label.
+    Print(Print),
+}
+
+/// What a print says of its label.
+#[derive(Clone, Copy, Debug, PartialEq, Eq)]
+pub struct Print {
+    /// How many elements it has.
+    pub count: usize,
+    /// Label sets, and copies of each label: 0 or more, and 1 where the print line does not say.
+    pub sets: i32,
+    pub copies: i32,
 }
 
 /// Elements behind the last print line of a file. They are no label: the file may have been sent by halves. In words: "2 elements behind the last print line:
@@ -58,7 +68,7 @@ impl<'a> Iterator for Steps<'a> {
         let answer = raw::step(self.input, self.walk);
         self.walk = answer.next;
         match answer.kind {
-            0 => Some(Ok(Step::Print(answer.count))),
+            0 => Some(Ok(Step::Print(Print { count: answer.count, sets: answer.sets, copies: answer.copies }))),
             17 => Some(Ok(Step::Clear)),
             18 => {
                 self.over = true;
@@ -75,10 +85,12 @@ impl<'a> Iterator for Steps<'a> {
     }
 }
 
-/// A label: its elements in file order.
+/// A label: its elements in file order, label sets and copies of each label.
 #[derive(Clone, Debug, PartialEq)]
 pub struct Label<'a> {
     pub elements: Vec<Element<'a>>,
+    pub sets: i32,
+    pub copies: i32,
 }
 
 /// The labels of a file, in the order in which they are printed. A refusal is the last item; the labels before it were printed before the refused line.
@@ -109,7 +121,7 @@ impl<'a> Iterator for Labels<'a> {
             match step {
                 Ok(Step::Element(element)) => elements.push(element),
                 Ok(Step::Clear) => elements.clear(),
-                Ok(Step::Print(_)) => return Some(Ok(Label { elements })),
+                Ok(Step::Print(Print { sets, copies, .. })) => return Some(Ok(Label { elements, sets, copies })),
                 Err(refused) => return Some(Err(refused)),
             }
         }

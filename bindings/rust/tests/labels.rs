@@ -21,7 +21,7 @@ fn refused(file: &[u8]) -> (u8, usize) {
 #[test]
 fn the_worked_example() {
     let file = b"R10,20\nLO5,6,30,4\nP1\n";
-    assert_eq!(list(file).unwrap(), "0000000001\n020000000f0000001a0000001e000000040000000400\n");
+    assert_eq!(list(file).unwrap(), "00000000010000000100000001\n020000000f0000001a0000001e000000040000000400\n");
     let line = one(file);
     assert_eq!((line.x, line.y, line.data, line.text()), (15, 26, &b""[..], None));
     assert_eq!(line.kind, Kind::Box { width: 30, height: 4, thickness: 4, colour: Colour::Black });
@@ -76,17 +76,17 @@ fn data_is_the_files() {
 
 #[test]
 fn steps_clear_and_print() {
-    let file = b"N\nLO1,1,1,1\nN\nLO2,2,2,2\nP\nP\nLO3,3,3,3";
+    let file = b"N\nLO1,1,1,1\nN\nLO2,2,2,2\nP5,7\nP\nLO3,3,3,3";
     let mut walk = steps(file);
     let said: Vec<String> = walk
         .by_ref()
         .map(|step| match step.unwrap() {
             Step::Element(e) => format!("at {}", e.x),
             Step::Clear => "clear".to_string(),
-            Step::Print(n) => format!("print {n}"),
+            Step::Print(p) => format!("print {} {} {}", p.count, p.sets, p.copies),
         })
         .collect();
-    assert_eq!(said, ["clear", "at 1", "clear", "at 2", "print 1", "at 3"]);
+    assert_eq!(said, ["clear", "at 1", "clear", "at 2", "print 1 5 7", "at 3"]);
     assert_eq!(walk.unprinted(), Some(Unprinted { elements: 1 }));
     assert_eq!(labels(file).count(), 1);
 }

@@ -1,18 +1,15 @@
 // Runs of one class of bytes.
 ghost use mathlib.Core.Path.{_≡_};
-ghost use Rattle.text.specs.Class.{allDigits};
+ghost use Rattle.text.specs.Class.{digitRun};
 use classes::class::is_digit;
 
-// Every byte of s is a digit; so of an empty s.
-pub fn all_digits(s: &[u8]) -> bool
-    ensures { λ r. ⌜ r ≡ allDigits (now (s .entry)) ⌝ }
+// How many digits s begins with.
+pub fn digit_run(s: &[u8]) -> usize
+    ensures { λ r. ⌜ r ≡ digitRun (now (s .entry)) ⌝ }
 {
     let mut i = 0;
-    while i < s.len() {
-        if !is_digit(s[i]) {
-            return false;
-        }
+    while i < s.len() && is_digit(s[i]) {
         i += 1;
     }
-    true
+    i
 }

@@ -8,6 +8,7 @@ use Rattle.text.specs.Blank.{trimStart, trim}
 use Rattle.text.specs.Fields.{indexOf, before, quoted, withoutTrailingCommas}
 use Rattle.elements.specs.declared.DataSpan.{DataSpan}
 use Rattle.elements.specs.declared.LabelPosition.{LabelPosition}
+use Rattle.elements.specs.declared.PrintCounts.{PrintCounts}
 use Rattle.spelling.specs.declared.command.Command.{Command}
 use Rattle.spelling.specs.declared.command.Command.the-variants.{Clear, Reference, Data, Line, Diagonal, Box, Print}
 use Rattle.spelling.specs.declared.command.Command.the-variants.{Other}
@@ -19,6 +20,7 @@ use Rattle.barcodes.specs.Barcode.{barcodeReading}
 use Rattle.barcodes_2d.specs.Barcode2d.{barcode2dReading}
 use Rattle.draws.specs.Draw.{lineReading, diagonalReading, boxReading}
 use Rattle.spelling.specs.Command.{commandOf}
+use Rattle.spelling.specs.Print.{countsOf}
 use Rattle.spelling.specs.Reference.{referenceOf}
 use Rattle.texts.specs.Text.{textReading}
 
@@ -45,6 +47,10 @@ quotedReading c lead t r =
 abbrev pub setTo : LabelPosition → LineReading
 setTo p = reading.Reference (p .x) (p .y)
 
+-- what a print line says
+abbrev pub prints : PrintCounts → LineReading
+prints c = reading.Print (c .sets) (c .copies)
+
 abbrev pub commandReading : Command → ℕ → List ℕ → LabelPosition → LineReading
 commandReading Clear lead t r = reading.Clear
 commandReading Reference lead t r = setTo (referenceOf (drop 1 t) r)
@@ -52,7 +58,7 @@ commandReading (Data c) lead t r = quotedReading c lead t r
 commandReading (Line c) lead t r = lineReading (drop 2 t) c r
 commandReading Diagonal lead t r = diagonalReading (drop 2 t) r
 commandReading Box lead t r = boxReading (drop 1 t) r
-commandReading Print lead t r = reading.Print
+commandReading Print lead t r = prints (countsOf (drop 1 t))
 commandReading Other lead t r = reading.Passed
 
 -- the bytes of Unicode blanks that a line begins with

@@ -3,7 +3,7 @@ ghost use mathlib.Core.Path.{_≡_};
 ghost use Prim.Native.Nat.{_+_, _<_};
 ghost use lib.ListN.{length};
 ghost use Rattle.parameters.specs.Reading.{laterReading};
-ghost use Rattle.commands.specs.Line.{withData, quotedReading, setTo, commandReading, readLine};
+ghost use Rattle.commands.specs.Line.{withData, quotedReading, setTo, prints, commandReading, readLine};
 use barcodes::barcode::parse_epl_barcode;
 use barcodes_2d::barcode_2d::parse_epl_2d_barcode;
 use bytes::fields::before_last;
@@ -14,6 +14,7 @@ use draws::draw::parse_epl_diagonal;
 use draws::draw::parse_epl_line;
 use elements::DataSpan;
 use elements::LabelPosition;
+use elements::PrintCounts;
 use numbers::blank::trim_end;
 use numbers::blank::trim_start;
 use parameters::params::tail;
@@ -22,6 +23,7 @@ use parameters::reading::LineReading;
 use spelling::command::Command;
 use spelling::command::DataCommand;
 use spelling::command::command_of;
+use spelling::print::parse_epl_print;
 use spelling::reference::parse_epl_reference;
 use texts::epl_text::parse_epl_text;
 
@@ -73,6 +75,13 @@ fn set_to(p: LabelPosition) -> LineReading
     LineReading::Reference(p.x, p.y)
 }
 
+// What a print line says.
+fn prints(c: PrintCounts) -> LineReading
+    ensures { λ r. ⌜ r ≡ prints c ⌝ }
+{
+    LineReading::Print(c.sets, c.copies)
+}
+
 // A command of the line t, whose blanks are off.
 fn read_command(c: Command, t: &[u8], lead: usize, reference: LabelPosition) -> LineReading
     requires { ⌜ lead + length (now t) < 18446744073709551616 ⌝ }
@@ -85,7 +94,7 @@ fn read_command(c: Command, t: &[u8], lead: usize, reference: LabelPosition) -> 
         Command::Line(line_color) => parse_epl_line(tail_two(t), line_color, reference),
         Command::Diagonal => parse_epl_diagonal(tail_two(t), reference),
         Command::Box => parse_epl_box(tail(t), reference),
-        Command::Print => LineReading::Print,
+        Command::Print => prints(parse_epl_print(tail(t))),
         Command::Other => LineReading::Passed,
     }
 }

@@ -19,6 +19,7 @@ use Rattle.elements.specs.declared.FontScale.{FontScale}
 use Rattle.elements.specs.declared.LabelElement.{LabelElement}
 use Rattle.elements.specs.declared.LabelPosition.{LabelPosition}
 use Rattle.elements.specs.declared.LineColor.{LineColor}
+use Rattle.elements.specs.declared.PrintCounts.{PrintCounts}
 use Rattle.elements.specs.declared.LineColor.the-variants.{Black, White, Xor}
 use Rattle.elements.specs.declared.plain.Bars as bars
 use Rattle.elements.specs.declared.plain.Data.{Data}
@@ -148,9 +149,9 @@ plainFrame s p = head (p .kind) (p .position) ++ fieldBytes (p .fields) ++ dataB
 unfoldable pub frameOf : List ℕ → LabelElement → List ℕ
 frameOf s e = plainFrame s (plainOf e)
 
--- "00: element count"
-abbrev pub countFrame : ℕ → List ℕ
-countFrame n = 0 ∷ be32 n
+-- "00: element count, sets, copies"
+unfoldable pub labelFrame : ℕ → PrintCounts → List ℕ
+labelFrame n q = 0 ∷ be32 n ++ number (q .sets) ++ number (q .copies)
 
 -- "fe: count of the elements pending at the end"
 abbrev pub pendingFrame : ℕ → List ℕ

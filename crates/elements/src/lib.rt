@@ -14,6 +14,12 @@ pub struct LabelPosition {
     pub y: i32,
 }
 
+// What a print line says: label sets, and copies of each label.
+pub struct PrintCounts {
+    pub sets: i32,
+    pub copies: i32,
+}
+
 // Data of an element: where it stands, and how many bytes it has before decoding.
 pub struct DataSpan {
     pub start: usize,

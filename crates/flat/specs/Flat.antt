@@ -10,6 +10,7 @@ use Rattle.elements.specs.declared.FieldOrientation.{FieldOrientation}
 use Rattle.elements.specs.declared.LabelElement.{LabelElement}
 use Rattle.elements.specs.declared.LabelElement.the-variants as element
 use Rattle.elements.specs.declared.LabelPosition.{LabelPosition}
+use Rattle.elements.specs.declared.PrintCounts.{PrintCounts}
 use Rattle.elements.specs.declared.walk_state.WalkState.{WalkState}
 use Rattle.element_frames.specs.Frame as frame
 use Rattle.flat.specs.declared.answer.FlatAnswer.{FlatAnswer}
@@ -105,15 +106,44 @@ flatElement (element.Maxicode e) = saying 0x0f (e .position) (e .«data») [] ((
 abbrev pub nothing : Element
 nothing = saying 0 (record { x = pos 0; y = pos 0 }) none [] [] []
 
--- a print, a clear, the end or a refusal: "A print carries the element count"; a refusal has "its number (1 byte), its
--- place"
-abbrev pub event : ℕ → ℕ → ℕ → ℕ → WalkState → FlatAnswer
-event kind number place count next =
-    record { kind = kind; number = number; place = place; count = count; next = next; element = nothing }
+-- a clear, the end or a refusal, which has "its number (1 byte), its place"
+abbrev pub event : ℕ → ℕ → ℕ → WalkState → FlatAnswer
+event kind number place next = record {
+  kind = kind;
+  number = number;
+  place = place;
+  count = 0;
+  sets = pos 0;
+  copies = pos 0;
+  next = next;
+  element = nothing;
+}
+
+-- "A print carries the element count", sets and copies
+abbrev pub printed : ℕ → PrintCounts → WalkState → FlatAnswer
+printed count counts next = record {
+  kind = 0;
+  number = 0;
+  place = 0;
+  count = count;
+  sets = counts .sets;
+  copies = counts .copies;
+  next = next;
+  element = nothing;
+}
 
 -- an element: its kind is the answer's
 abbrev pub answered : Element → WalkState → FlatAnswer
-answered e next = record { kind = e .kind; number = 0; place = 0; count = 0; next = next; element = e }
+answered e next = record {
+  kind = e .kind;
+  number = 0;
+  place = 0;
+  count = 0;
+  sets = pos 0;
+  copies = pos 0;
+  next = next;
+  element = e;
+}
 
 -- ---- the parts
 -- kind, position and data alone

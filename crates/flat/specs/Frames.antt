@@ -9,7 +9,7 @@ use lib.ListN.{length}
 use Rattle.elements.specs.declared.DataSpan.{DataSpan}
 use Rattle.elements.specs.declared.LabelPosition.{LabelPosition}
 use Rattle.element_frames.specs.Frame.{be32, number, float, part, sized, decoded, head}
-use Rattle.element_frames.specs.Frame.{frameOf, countFrame, pendingFrame, refusalFrame}
+use Rattle.element_frames.specs.Frame.{frameOf, labelFrame, pendingFrame, refusalFrame}
 use Rattle.whole.specs.Step.{State, element, cleared, printed, ended, refused}
 use Rattle.walk.specs.Steps.{EplAnswer}
 use Rattle.flat.specs.declared.answer.FlatAnswer.{FlatAnswer}
@@ -72,7 +72,7 @@ endFrame (suc n) = pendingFrame (suc n)
 -- is pending in its state
 abbrev pub frameFlat : List ℕ → FlatAnswer → List ℕ
 frameFlat s a =
-    cond (eqb (a .kind) 0) (countFrame (a .count))
+    cond (eqb (a .kind) 0) (labelFrame (a .count) (record { sets = a .sets; copies = a .copies }))
     (cond (eqb (a .kind) 255) (refusalFrame (a .number) (a .place))
     (cond (eqb (a .kind) 17) []
     (cond (eqb (a .kind) 18) (endFrame (a .next .pending))
@@ -82,7 +82,7 @@ frameFlat s a =
 abbrev pub answerFrame : List ℕ → EplAnswer → List ℕ
 answerFrame s (element e st) = frameOf s e
 answerFrame s (cleared st) = []
-answerFrame s (printed n q st) = countFrame n
+answerFrame s (printed n q st) = labelFrame n q
 answerFrame s (ended st) = endFrame (st .pending)
 answerFrame s (refused n p st) = refusalFrame n p
 

@@ -4,6 +4,7 @@ use Rattle.elements.specs.declared.walk_state.WalkState.{WalkState}
 use Rattle.whole.specs.Step.{State, element, cleared, printed, ended, refused}
 use Rattle.walk.specs.Steps.{EplAnswer}
 use Rattle.flat.specs.Flat.{event, answered, flatElement}
+use Rattle.flat.specs.Flat as parts
 use Rattle.flat.specs.declared.answer.FlatAnswer as flat
 
 -- "The state is the place, the reference and the pending count"
@@ -11,11 +12,11 @@ abbrev pub walkOf : State LabelPosition → WalkState
 walkOf st = record { place = st .place; reference = st .ref; pending = st .pending }
 
 -- "each step answers an element, a clear, a print, the end or a refusal": an element as 1 to 16, a clear as 17, a print
--- as 0 ("00: element count"), the end as 18, a refusal as 255 ("ff, its number (1 byte), its place"); each with its
+-- as 0 ("00: element count, sets, copies"), the end as 18, a refusal as 255 ("ff, its number (1 byte), its place"); each with its
 -- state
 abbrev pub flatOf : EplAnswer → flat.FlatAnswer
 flatOf (element e st) = answered (flatElement e) (walkOf st)
-flatOf (cleared st) = event 17 0 0 0 (walkOf st)
-flatOf (printed n q st) = event 0 0 0 n (walkOf st)
-flatOf (ended st) = event 18 0 0 0 (walkOf st)
-flatOf (refused k p st) = event 255 k p 0 (walkOf st)
+flatOf (cleared st) = event 17 0 0 (walkOf st)
+flatOf (printed n q st) = parts.printed n q (walkOf st)
+flatOf (ended st) = event 18 0 0 (walkOf st)
+flatOf (refused k p st) = event 255 k p (walkOf st)

@@ -1,11 +1,12 @@
 // The flat element, the parts of one that several kinds have, and the flat answer that carries it.
 ghost use mathlib.Core.Path.{_≡_};
-ghost use Rattle.flat.specs.Flat.{placed, barred, nothing, event, answered};
+ghost use Rattle.flat.specs.Flat.{placed, barred, nothing, event, printed, answered};
 use element_frames::fields::flag;
 use element_frames::fields::rotation;
 use elements::DataSpan;
 use elements::FieldOrientation;
 use elements::LabelPosition;
+use elements::PrintCounts;
 use elements::walk_state::WalkState;
 
 // What a command draws. A field that is none of its kind's is 0.
@@ -71,6 +72,9 @@ pub struct FlatAnswer {
     pub place: usize,
     // A print's: how many elements its label has.
     pub count: usize,
+    // A print's: label sets, and copies of each label.
+    pub sets: i32,
+    pub copies: i32,
     // The state for the next step; after a refusal the one that was given.
     pub next: WalkState,
     pub element: Element,
@@ -141,16 +145,35 @@ fn nothing() -> Element
     )
 }
 
-// A print, a clear, the end or a refusal.
-pub(crate) fn event(kind: u8, number: u8, place: usize, count: usize, next: WalkState) -> FlatAnswer
-    ensures { λ r. ⌜ r ≡ event kind number place count next ⌝ }
+// A clear, the end or a refusal.
+pub(crate) fn event(kind: u8, number: u8, place: usize, next: WalkState) -> FlatAnswer
+    ensures { λ r. ⌜ r ≡ event kind number place next ⌝ }
 {
     let element = nothing();
     FlatAnswer {
         kind,
         number,
         place,
+        count: 0,
+        sets: 0,
+        copies: 0,
+        next,
+        element,
+    }
+}
+
+// A print.
+pub(crate) fn printed(count: usize, counts: PrintCounts, next: WalkState) -> FlatAnswer
+    ensures { λ r. ⌜ r ≡ printed count counts next ⌝ }
+{
+    let element = nothing();
+    FlatAnswer {
+        kind: 0,
+        number: 0,
+        place: 0,
         count,
+        sets: counts.sets,
+        copies: counts.copies,
         next,
         element,
     }
@@ -165,6 +188,8 @@ pub(crate) fn answered(element: Element, next: WalkState) -> FlatAnswer
         number: 0,
         place: 0,
         count: 0,
+        sets: 0,
+        copies: 0,
         next,
         element,
     }

@@ -5,6 +5,7 @@ ghost use Rattle.flat.specs.Steps.{flatOf};
 use crate::answer::FlatAnswer;
 use crate::answer::answered;
 use crate::answer::event;
+use crate::answer::printed;
 use crate::element::flat_element;
 use walk::answer::Answer;
 
@@ -14,9 +15,12 @@ pub fn flat_step(a: Answer) -> FlatAnswer
 {
     match a {
         Answer::Element(st, e) => answered(flat_element(e), st),
-        Answer::Clear(st) => event(17, 0, 0, 0, st),
-        Answer::Print(st, p) => event(0, 0, 0, p.count, st),
-        Answer::End(st) => event(18, 0, 0, 0, st),
-        Answer::Refused(st, k, place) => event(255, k.number(), place, 0, st),
+        Answer::Clear(st) => event(17, 0, 0, st),
+        Answer::Print(st, p) => {
+            let counts = p.counts;
+            printed(p.count, counts, st)
+        }
+        Answer::End(st) => event(18, 0, 0, st),
+        Answer::Refused(st, k, place) => event(255, k.number(), place, st),
     }
 }

@@ -3,8 +3,7 @@ ghost use mathlib.Core.Path.{_≡_};
 ghost use Prim.Native.Nat.{_+_, _*_, _≤_, min};
 ghost use lib.ListN.{length};
 ghost use Rattle.text.specs.Wrote.{Put};
-ghost use mathlib.Core.List.{_∷_};
-ghost use Rattle.element_frames.specs.Frame.{be32, frameOf, countFrame, pendingFrame, refusalFrame};
+ghost use Rattle.element_frames.specs.Frame.{frameOf, labelFrame, pendingFrame, refusalFrame};
 ghost use Rattle.element_frames.specs.Hex.{lineOf};
 ghost use Rattle.element_frames.specs.Put.{PutHex};
 use crate::kinds::fields_len;
@@ -13,9 +12,11 @@ use element_frames::data::put_data;
 use element_frames::data::with_data;
 use element_frames::fields::put_head;
 use element_frames::hex::put_byte;
+use element_frames::hex::put_i32;
 use element_frames::hex::put_lf;
 use element_frames::hex::put_u32;
 use elements::LabelElement;
+use elements::PrintCounts;
 use elements::plain::plain_of;
 
 // The digits of an element's frame.
@@ -42,22 +43,16 @@ pub fn put_frame(input: &[u8], out: &mut [u8], at: usize, e: LabelElement) -> us
     put_lf(out, a)
 }
 
-// The line of a kind and a count.
-fn put_counted(out: &mut [u8], at: usize, kind: u8, n: usize) -> usize
-    requires { ⌜ at + 11 ≤ length (now out) ⌝ }
-    ensures { λ r. ⌜ Put (now (out .exit)) (now (out .entry)) at (lineOf (kind ∷ be32 n)) r ⌝ }
+// The line of a label: its element count, sets and copies.
+pub fn put_label_frame(out: &mut [u8], at: usize, n: usize, counts: PrintCounts) -> usize
+    requires { ⌜ at + 27 ≤ length (now out) ⌝ }
+    ensures { λ r. ⌜ Put (now (out .exit)) (now (out .entry)) at (lineOf (labelFrame n counts)) r ⌝ }
 {
-    let a = put_byte(out, at, kind);
+    let a = put_byte(out, at, 0);
     let b = put_u32(out, a, n);
-    put_lf(out, b)
-}
-
-// The line of a label's count.
-pub fn put_count(out: &mut [u8], at: usize, n: usize) -> usize
-    requires { ⌜ at + 11 ≤ length (now out) ⌝ }
-    ensures { λ r. ⌜ Put (now (out .exit)) (now (out .entry)) at (lineOf (countFrame n)) r ⌝ }
-{
-    put_counted(out, at, 0, n)
+    let c = put_i32(out, b, counts.sets);
+    let d = put_i32(out, c, counts.copies);
+    put_lf(out, d)
 }
 
 // The line of the count pending at the end.
@@ -65,7 +60,9 @@ pub fn put_pending(out: &mut [u8], at: usize, n: usize) -> usize
     requires { ⌜ at + 11 ≤ length (now out) ⌝ }
     ensures { λ r. ⌜ Put (now (out .exit)) (now (out .entry)) at (lineOf (pendingFrame n)) r ⌝ }
 {
-    put_counted(out, at, 254, n)
+    let a = put_byte(out, at, 254);
+    let b = put_u32(out, a, n);
+    put_lf(out, b)
 }
 
 // The line of a refusal.

@@ -8,7 +8,7 @@ use denote.Enum.Declared.{tagOf, declared}
 use Prim.Native.Nat.{ℕ, zero, suc, _+_, _*_, _<_, _≤_}
 use native.Mathlib.Omega.{arith}
 use lib.ListN.{length, length-append}
-use Rattle.element_frames.specs.Frame.{frameOf, countFrame, pendingFrame}
+use Rattle.element_frames.specs.Frame.{be32, frameOf, labelFrame, pendingFrame}
 use Rattle.element_frames.specs.Hex.{lineOf}
 use Rattle.element_frames.proofs.HexLaws.{length-line, length-be32}
 use Rattle.whole.specs.Step.{step}
@@ -27,11 +27,12 @@ pub length-lines : (p : List (List ℕ)) (f : List ℕ) → length (linesOf (p +
 length-lines [] f = length-append (lineOf f) [] ∙ omega (arith, length-line f)
 length-lines (q ∷ p) f = length-append (lineOf q) (linesOf (p ++ (f ∷ []))) ∙ omega (arith, length-lines p f, length-append (lineOf q) (linesOf p))
 
-pub length-count : (n : ℕ) → length (lineOf (countFrame n)) ≡ 11
-length-count n = omega (arith, length-line (countFrame n), length-be32 n)
+pub length-frame : (n : ℕ) (q : EplPrint) → length (lineOf (labelFrame n q)) ≡ 27
+unfolding labelFrame be32
+length-frame n q = omega (arith, length-line (labelFrame n q))
 
-pub length-label : (n : ℕ) (q : EplPrint) (p : List (List ℕ)) → length (labelLines (record { count = n; says = q; frames = p })) ≡ 11 + length (linesOf p)
-length-label n q p = omega (arith, length-append (lineOf (countFrame n)) (linesOf p), length-count n)
+pub length-label : (n : ℕ) (q : EplPrint) (p : List (List ℕ)) → length (labelLines (record { count = n; says = q; frames = p })) ≡ 27 + length (linesOf p)
+length-label n q p = omega (arith, length-append (lineOf (labelFrame n q)) (linesOf p), length-frame n q)
 
 -- what is pending at the end has a line, or nothing
 pub pending-some : (n : ℕ) → 0 < n → pendingLine n ≡ lineOf (pendingFrame n)

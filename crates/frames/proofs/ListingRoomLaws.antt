@@ -39,7 +39,7 @@ use Rattle.frames.specs.Listing.{FramedLabel, FramedOutcome, linesOf, la
 use Rattle.frames.specs.Printing.{shownOf, refusalBy, shownBy, printedOf}
 use Rattle.frames.proofs.ListingLaws.{length-lines, length-label, length-pending-le}
 
--- a line of 2 digits a byte and an LF, and the 11 bytes of frame 00's line
+-- a line of 2 digits a byte and an LF, and 11 of the 27 bytes of frame 00's line; a print line pays the other 16
 abbrev Pays : ℕ → LabelElement → Type 0
 Pays k e = (s : List ℕ) → 2 * length (frameOf s e) + 12 ≤ 16 * k
 

@@ -2,7 +2,7 @@
 -- due to `list`.
 use mathlib.Core.List.{List, [], _∷_, _++_}
 use Prim.Native.Nat.{ℕ, zero, suc}
-use Rattle.element_frames.specs.Frame.{frameOf, countFrame, pendingFrame}
+use Rattle.element_frames.specs.Frame.{frameOf, labelFrame, pendingFrame}
 use Rattle.element_frames.specs.Hex.{lineOf}
 use Rattle.elements.specs.Given.{Due, text, denied}
 use Rattle.whole.specs.Labels.{Label}
@@ -10,6 +10,7 @@ use Rattle.whole.specs.Reach.{Final, accepted, refusal}
 use Rattle.whole.specs.Trace.{Outcome, listed, refusal-of, outcome, final, labelsIn, lead}
 use Rattle.grammar.specs.Epl.{EplPrint, epl}
 use Rattle.elements.specs.Walk.{fresh}
+use Rattle.walk.specs.declared.answer.Printed.{Printed}
 use Rattle.walk.specs.Steps.{EplTrace, stateOf, traceOf}
 use Rattle.elements.specs.declared.walk_state.WalkState.{WalkState}
 
@@ -24,7 +25,7 @@ linesOf (f ∷ fs) = lineOf f ++ linesOf fs
 
 -- "A label is its frame 00, then the frames of its elements in file order"
 abbrev pub labelLines : FramedLabel → List ℕ
-labelLines l = lineOf (countFrame (l .count)) ++ linesOf (l .frames)
+labelLines l = lineOf (labelFrame (l .count) (l .says)) ++ linesOf (l .frames)
 
 -- "the listing ends with frame fe and their count, only if there are some"
 abbrev pub pendingLine : ℕ → List ℕ
@@ -57,9 +58,9 @@ dueOf s = listingDue (outcomeOf s)
 abbrev pub frontFrames : List ℕ → WalkState → List (List ℕ)
 frontFrames s w = lead epl (List ℕ) frameOf s (traceOf s w)
 
--- a label of n elements, with the frames that the walk from w begins with
-abbrev pub labelText : List ℕ → ℕ → WalkState → List ℕ
-labelText s n w = labelLines (record { count = n; says = tt; frames = frontFrames s w })
+-- a label of what a print carries, with the frames that the walk from w begins with
+abbrev pub labelText : List ℕ → Printed → WalkState → List ℕ
+labelText s p w = labelLines (record { count = p .count; says = p .counts; frames = frontFrames s w })
 
 -- the count pending where a walk ends; a refusal lists none
 abbrev pub pendingAt : Final → ℕ

@@ -12,10 +12,11 @@ use elements::refusal::Refusal;
 use elements::walk_state::WalkState;
 use elements::walk_state::start;
 use frame_lines::frame::frame_len;
-use frame_lines::frame::put_count;
 use frame_lines::frame::put_frame;
+use frame_lines::frame::put_label_frame;
 use frame_lines::frame::put_pending;
 use walk::answer::Answer;
+use walk::answer::Printed;
 use walk::step::step;
 
 // The lines of the elements from st up to the first answer that is none.
@@ -34,12 +35,13 @@ fn put_elements(input: &[u8], out: &mut [u8], at: usize, st: WalkState) -> usize
     }
 }
 
-// A label of n elements, which begin at first.
-fn put_label(input: &[u8], out: &mut [u8], at: usize, n: usize, first: WalkState) -> usize
-    requires { ⌜ at + length (labelText (now input) n first) ≤ length (now out) ⌝ }
-    ensures { λ r. ⌜ Put (now (out .exit)) (now (out .entry)) at (labelText (now (input .entry)) n first) r ⌝ }
+// A label of what a print carries, whose elements begin at first.
+fn put_label(input: &[u8], out: &mut [u8], at: usize, p: Printed, first: WalkState) -> usize
+    requires { ⌜ at + length (labelText (now input) p first) ≤ length (now out) ⌝ }
+    ensures { λ r. ⌜ Put (now (out .exit)) (now (out .entry)) at (labelText (now (input .entry)) p first) r ⌝ }
 {
-    let to = put_count(out, at, n);
+    let counts = p.counts;
+    let to = put_label_frame(out, at, p.count, counts);
     put_elements(input, out, to, first)
 }
 
@@ -80,7 +82,7 @@ fn put_labels(input: &[u8], out: &mut [u8]) -> usize
                 here = next;
             }
             Answer::Print(next, p) => {
-                at = put_label(input, out, at, p.count, first);
+                at = put_label(input, out, at, p, first);
                 first = next;
                 here = next;
             }
@@ -113,7 +115,7 @@ pub(crate) fn measure(input: &[u8]) -> Filled
                 here = next;
             }
             Answer::Print(next, p) => {
-                total += 11 + pend;
+                total += 27 + pend;
                 pend = 0;
                 here = next;
             }

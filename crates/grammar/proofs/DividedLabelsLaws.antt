@@ -27,14 +27,14 @@ module _ (F : Type 0) (frame : List ℕ → LabelElement → F) where
   role-goes passes r q p u a d = rw d
   role-goes clears r q p u a d = rw d
   role-goes yields r q p u a d = rw (d .1, d .2)
-  role-goes prints r q p u a d = rw (d .0, d .1)
+  role-goes (prints c) r q p u a d = rw (d .0, d .1)
 
   role-counts : (k : Role) (r q : LabelPosition) (p : List F) (u : EplUnit) (a : EplAct) → Does k r q a
       → length (pendingAfter frame k p (yieldedBy frame u a)) ≡ countAfter k (length p)
   role-counts passes r q p u a d = refl
   role-counts clears r q p u a d = refl
   role-counts yields r q p u a d = rw (d .1) (omega (arith, length-append p (frame (bytes u) (d .0) ∷ [])))
-  role-counts prints r q p u a d = refl
+  role-counts (prints c) r q p u a d = refl
 
   -- ---- a division
   out≢labels : {x : List (Label F EplPrint)} {n : ℕ} → _≡_ {A = Labels F EplPrint} out (labels x n) → ⊥

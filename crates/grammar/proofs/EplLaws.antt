@@ -66,7 +66,7 @@ act-yields r (reading.Element f) e h = cc
 act-yields r reading.Passed e h = cc
 act-yields r reading.Clear e h = cc
 act-yields r (reading.Reference x y) e h = cc
-act-yields r reading.Print e h = cc
+act-yields r (reading.Print m n) e h = cc
 act-yields r (reading.Refused n) e h = cc
 
 pub acts-line-in : (r : LabelPosition) (t : List ℕ) (e : LabelElement) → actOf r (readLine t r) ≡ yield e → In (length t) e

@@ -72,7 +72,7 @@ module _ (F : Type 0) (frame : List ℕ → LabelElement → F)
       by reading.Passed h = refl
       by reading.Clear h = refl
       by (reading.Reference x y) h = refl
-      by reading.Print h = refl
+      by (reading.Print m n) h = refl
       by (reading.Refused n) h = refl
 
   module _ (us : List EplUnit) where

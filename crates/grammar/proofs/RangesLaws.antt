@@ -53,6 +53,7 @@ use Rattle.spelling.specs.declared.command.DataCommand.the-variants as command
 use Rattle.spelling.specs.declared.command.Command.{Command}
 use Rattle.spelling.specs.declared.command.Command.the-variants.{Clear, Reference, Data, Line, Diagonal, Box, Print, Other}
 use Rattle.spelling.specs.Command.{commandOf}
+use Rattle.spelling.specs.Print.{countsOf}
 use Rattle.spelling.specs.Reference.{referenceOf}
 use Rattle.commands.specs.Line.{paramsOf, withData, spanOf, quotedReading, commandReading, leadOf, readLine}
 use Rattle.whole.specs.Language.{keep, outside}
@@ -316,7 +317,7 @@ acted xs ys r x (sum a h) = sum a (ap (actOf r) h)
 acted xs ys r x (size a b h) = size a b (ap (actOf r) h)
 
 acts-command : (c : Command) (lead : ℕ) (t : List ℕ) (r : LabelPosition) → wellFormedAs c t ≡ true → Acts (sumsAs c t r) (sizesAs c t) (roleAs c t) r (refAs c t r) (actOf r (commandReading c lead t r))
-unfolding quotedReading referenceOf
+unfolding quotedReading referenceOf countsOf
 acts-command Clear lead t r w = all tt tt refl
 acts-command Reference lead t r w = all tt tt (ap (λ (y : ℤ). keep (record { x = number (field (drop 1 t) 0); y = y })) (y-is (drop 1 t) (r .y)))
 acts-command (Data c) lead t r w =
@@ -412,7 +413,7 @@ does-inside : (k : Role) (r q : LabelPosition) (a : EplAct) (n : ℕ) → Does k
 does-inside passes r q a n d e = let z : _≡_ {A = ℕ} 0 1 = cc in omega arith
 does-inside clears r q a n d e = let z : _≡_ {A = ℕ} 0 1 = cc in omega arith
 does-inside yields r q a n d e = let k = d .1 in let z : _≡_ {A = ℕ} 0 1 = cc in omega arith
-does-inside prints r q a n d e = let k = d .0 in let z : _≡_ {A = ℕ} 0 1 = cc in omega arith
+does-inside (prints c) r q a n d e = let k = d .0 in let z : _≡_ {A = ℕ} 0 1 = cc in omega arith
 
 module _ (r : LabelPosition) (u : EplUnit) (rest : List ℕ) (st : Stands u rest) where
   -- all numbers fit: the unit does what its role says

@@ -67,7 +67,7 @@ Shaped k zs reading.Passed = Unit
 Shaped k zs reading.Clear = Unit
 Shaped k zs (reading.Reference x y) = Unit
 Shaped k zs (reading.Element e) = (kindOf e ≡ k) × (placeOf e .x ∷ placeOf e .y ∷ [] ≡ zs)
-Shaped k zs reading.Print = Unit
+Shaped k zs (reading.Print m n) = Unit
 Shaped k zs (reading.Refused n) = Unit
 
 shaped-cond : (b : Bool) (n : Refusal) (k : ℕ) (zs : List ℤ) (x : LineReading) → Shaped k zs x → Shaped k zs (cond b (reading.Refused n) x)

@@ -4,16 +4,20 @@ use mathlib.Core.Path.{_≡_, refl, sym, ap, subst, _∙_}
 use mathlib.Core.Bool.{Bool, true, false, false≢true}
 use mathlib.Core.List.{List, [], _∷_}
 use mathlib.Core.Logic.{_↔_, _⊎_, inl, inr}
-use Prim.Native.Nat.{ℕ}
+use Prim.Native.Nat.{ℕ, suc}
+use native.Mathlib.Omega.{arith}
 use lib.Dec.{eqb}
-use borrow.Author.Tests.{eqb-true, eqb-false}
+use lib.ListN.{length}
+use borrow.Author.Tests.{eqb-true, eqb-false, lt-ltb}
 use Rattle.text.specs.Class.{isDigit, allDigits}
 use Rattle.text.proofs.BoolLaws.{test, and-both, within-true, within-low, within-high}
 use Rattle.spelling.specs.declared.command.Command.{Command}
 use Rattle.spelling.specs.declared.command.Command.the-variants.{Clear, Reference, Data, Line, Diagonal, Box, Print, Other}
 use Rattle.spelling.specs.Command.{isReference, isPrint, commandOf}
+use Rattle.spelling.specs.Print.{isCount, isCounts}
 use Rattle.spelling.proofs.CommandLaws.{reads-other}
-use Rattle.grammar.specs.Spelled.{Digit, Digits, Letters, is-n, is-r, is-a, is-b, is-2d, is-lo, is-lw, is-le, is-ls, is-x, is-p, Spells, by-letters, else}
+use Rattle.spelling.proofs.PrintLaws.{counts-digits, counts-two, counts-cases}
+use Rattle.grammar.specs.Spelled.{Digit, Digits, Letters, is-n, is-r, is-a, is-b, is-2d, is-lo, is-lw, is-le, is-ls, is-x, is-p, is-p-p, Spells, by-letters, else}
 
 pub digit-true : (b : ℕ) → Digit b → isDigit b ≡ true
 digit-true b h = within-true 48 57 b (h .0) (h .1)
@@ -29,6 +33,10 @@ pub true-digits : (s : List ℕ) → allDigits s ≡ true → Digits s
 true-digits [] h = tt
 true-digits (b ∷ s) h = let k = and-both (isDigit b) (allDigits s) h in (true-digit b (k .0), true-digits s (k .1))
 
+-- a digit and more
+count-digits : (d : ℕ) (t : List ℕ) → Digits (d ∷ t) → isCount (d ∷ t) ≡ true
+count-digits d t h = simp (digits-true (d ∷ t) h, lt-ltb 0 (suc (length t)) (omega arith))
+
 letters-tell : {c : Command} {t : List ℕ} → Letters c t → commandOf t ≡ c
 unfolding commandOf isReference isPrint
 letters-tell is-n = refl
@@ -41,7 +49,8 @@ letters-tell is-lw = refl
 letters-tell is-le = refl
 letters-tell is-ls = refl
 letters-tell is-x = refl
-letters-tell (is-p {t} h) = simp (digits-true t h)
+letters-tell (is-p {t} h) = simp (counts-digits t (digits-true t h))
+letters-tell (is-p-p d t e u h k) = simp (counts-two (d ∷ t) (e ∷ u) (count-digits d t h) (count-digits e u k))
 
 -- ---- by the first letter
 abbrev Told : List ℕ → Type 0
@@ -69,7 +78,13 @@ told-l (b ∷ t) =
 
 told-p : (t : List ℕ) → Told (80 ∷ t)
 unfolding commandOf isReference isPrint
-told-p t = test (allDigits t) (λ e. simp e (inl (is-p (true-digits t e)))) (λ e. inr (simp e))
+told-p t =
+    test (isCounts t)
+    (λ e. simp e
+    (inl (counts-cases t e
+    (λ h. is-p (true-digits t h))
+    (λ d v f w s h k. subst (λ (x : List ℕ). Letters Print (80 ∷ x)) (sym s) (is-p-p d v f w (true-digits (d ∷ v) h) (true-digits (f ∷ w) k))))))
+    (λ e. inr (simp e))
 
 told : (t : List ℕ) → Told t
 unfolding commandOf isReference isPrint
@@ -108,6 +123,7 @@ letters-name is-le = refl
 letters-name is-ls = refl
 letters-name is-x = refl
 letters-name (is-p h) = refl
+letters-name (is-p-p d t e u h k) = refl
 
 -- ---- the law, both ways
 pub command-spells : (t : List ℕ) → Spells (commandOf t) t

@@ -59,7 +59,7 @@ Passed ds reading.Passed = Unit
 Passed ds reading.Clear = Unit
 Passed ds (reading.Reference x y) = Unit
 Passed ds (reading.Element e) = spans e ≡ ds
-Passed ds reading.Print = Unit
+Passed ds (reading.Print m n) = Unit
 Passed ds (reading.Refused n) = (n ≡ refusal.OutOfRange) ⊎ (n ≡ refusal.SizeOutside)
 
 -- the tests hold, and the reading is past them; or it is refused as 01's number k

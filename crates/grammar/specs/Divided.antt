@@ -31,14 +31,14 @@ module _ {F : Type 0} (frame : List ℕ → LabelElement → F) where
   pendingAfter passes p f = p
   pendingAfter clears p f = []
   pendingAfter yields p f = p ++ f
-  pendingAfter prints p f = []
+  pendingAfter (prints c) p f = []
 
   -- "a print line prints it, if there is any, as a label with its count"
   abbrev pub printedBy : Role → List F → List (Label F EplPrint)
   printedBy passes p = []
   printedBy clears p = []
   printedBy yields p = []
-  printedBy prints p = flush tt p
+  printedBy (prints c) p = flush c p
 
   -- "go unit by unit", from the reference r with p pending; "The end prints nothing"
   abbrev pub labelsBy : LabelPosition → List F → List EplUnit → List (Label F EplPrint)
@@ -51,7 +51,7 @@ abbrev pub countAfter : Role → ℕ → ℕ
 countAfter passes n = n
 countAfter clears n = 0
 countAfter yields n = suc n
-countAfter prints n = 0
+countAfter (prints c) n = 0
 
 -- "elements pending there are no label, and their count is the division's": by the roles of the units alone
 abbrev pub pendingBy : ℕ → List EplUnit → ℕ

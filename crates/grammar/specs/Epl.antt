@@ -6,6 +6,7 @@ use lib.ListN.{length}
 use Rattle.elements.specs.declared.LabelElement.{LabelElement}
 use Rattle.elements.specs.declared.LabelElement.the-variants as element
 use Rattle.elements.specs.declared.LabelPosition.{LabelPosition}
+use Rattle.elements.specs.declared.PrintCounts.{PrintCounts}
 use Rattle.elements.specs.Refusals.{numberOf}
 use Rattle.elements.specs.Spans.{shifted}
 use Rattle.parameters.specs.declared.reading.LineReading.{LineReading}
@@ -20,9 +21,9 @@ use Rattle.grammar.specs.Found.{first}
 abbrev pub origin : LabelPosition
 origin = record { x = pos 0; y = pos 0 }
 
--- what a print line says: nothing but that it prints
+-- what a print line says: "label sets and, after a comma, copies"
 abbrev pub EplPrint : Type 0
-EplPrint = Unit
+EplPrint = PrintCounts
 
 abbrev pub EplAct : Type 0
 EplAct = Act LabelPosition LabelElement EplPrint
@@ -34,7 +35,7 @@ actOf r reading.Passed = keep r
 actOf r reading.Clear = clear origin
 actOf r (reading.Reference x y) = keep (record { x = x; y = y })
 actOf r (reading.Element e) = yield e
-actOf r reading.Print = print tt
+actOf r (reading.Print sets copies) = print (record { sets = sets; copies = copies })
 actOf r (reading.Refused n) = outside (numberOf n)
 
 -- a block: its position with the reference added, its row bytes, its payload as data

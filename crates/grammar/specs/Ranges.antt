@@ -25,7 +25,7 @@ use Rattle.commands.specs.Line.{paramsOf}
 use Rattle.whole.specs.Language.{keep, clear, yield, print}
 use Rattle.grammar.specs.Units.{EplUnit, block, line, last, number}
 use Rattle.grammar.specs.WellFormed.{isRead}
-use Rattle.grammar.specs.Epl.{origin, EplAct}
+use Rattle.grammar.specs.Epl.{origin, EplPrint, EplAct}
 
 -- "within signed 32 bits"; `negsuc n` is −1 − n
 abbrev pub Signed32 : ℤ → Type 0
@@ -189,7 +189,11 @@ pub data Role : Type 0 where
   passes : Role
   clears : Role
   yields : Role
-  prints : Role
+  prints : EplPrint → Role
+
+-- "label sets and, after a comma, copies"; "A count that is absent or too large for signed 32 bits is 1"
+abbrev pub countsIn : List ℕ → EplPrint
+countsIn t = record { sets = fieldOr (pos 1) (field (drop 1 t) 0); copies = fieldOr (pos 1) (field (drop 1 t) 1) }
 
 abbrev pub roleAs : Command → List ℕ → Role
 roleAs (Data c) t = cond (isRead t) yields passes
@@ -198,7 +202,7 @@ roleAs Diagonal t = yields
 roleAs Box t = yields
 roleAs Clear t = clears
 roleAs Reference t = passes
-roleAs Print t = prints
+roleAs Print t = prints (countsIn t)
 roleAs Other t = passes
 
 abbrev pub roleOf : EplUnit → Role
@@ -212,4 +216,4 @@ abbrev pub Does : Role → LabelPosition → LabelPosition → EplAct → Type 0
 Does passes r q a = a ≡ keep q
 Does clears r q a = a ≡ clear q
 Does yields r q a = (e : LabelElement) × (a ≡ yield e) × (q ≡ r)
-Does prints r q a = (a ≡ print tt) × (q ≡ r)
+Does (prints c) r q a = (a ≡ print c) × (q ≡ r)

@@ -1,6 +1,6 @@
 -- Which command a line spells, its blanks off, by its letters (01, "Grammar"). Nothing here speaks of how it is told:
 -- `commandOf` is proved to tell it.
-use mathlib.Core.List.{List, [], _∷_}
+use mathlib.Core.List.{List, [], _∷_, _++_}
 use Prim.Native.Nat.{ℕ, _≤_}
 use Rattle.elements.specs.declared.LineColor.the-variants.{Black, White, Xor}
 use Rattle.spelling.specs.declared.command.Command.{Command}
@@ -32,8 +32,10 @@ pub data Letters : Command → List ℕ → Type 0 where
   is-le : {t : List ℕ} → Letters (Line Xor) (spelt "LE" t)
   is-ls : {t : List ℕ} → Letters Diagonal (spelt "LS" t)
   is-x : {t : List ℕ} → Letters Box (spelt "X" t)
-  -- "`P` or `P` with digits"
+  -- "`P` or `P` with digits"; "`P`, at least one digit, comma, at least one digit .., no blanks between"
   is-p : {t : List ℕ} → Digits t → Letters Print (spelt "P" t)
+  is-p-p : (d : ℕ) (t : List ℕ) (e : ℕ) (u : List ℕ) → Digits (d ∷ t) → Digits (e ∷ u)
+      → Letters Print (spelt "P" ((d ∷ t) ++ spelt "," (e ∷ u)))
 
 -- "anything else is passed over"
 pub data Spells : Command → List ℕ → Type 0 where

@@ -19,6 +19,7 @@ use Rattle.barcodes_2d.specs.Maxicode.{headerAt, headerPlace, postal, autoMode}
 use Rattle.barcodes_2d.specs.Options.{optionsOf, lastCount, lastNumber, lastClamped}
 use Rattle.graphics.specs.Block.{opensGw, closes, afterHeaderField, headerNumber, fourClosed, payloadOf, gwNumbers, measured, gwSpan}
 use Rattle.spelling.specs.Command.{isReference, isPrint, commandOf}
+use Rattle.spelling.specs.Print.{isCounts, countsOf}
 use Rattle.spelling.specs.Reference.{referenceOf}
 use Rattle.commands.specs.Line.{paramsOf, quotedReading, readLine}
 use Rattle.whole.specs.Labels.{flush}
@@ -26,12 +27,12 @@ use Rattle.whole.specs.Step.{handing, answer, step}
 use Rattle.whole.specs.Trace.{trace}
 use Rattle.grammar.specs.Found.{first}
 use Rattle.grammar.specs.WellFormed.{wellFormed, faultOf}
-use Rattle.element_frames.specs.Frame.{be32, head, extentBytes, barBytes, rowBytes, scaleBytes, fieldBytes, frameOf}
+use Rattle.element_frames.specs.Frame.{be32, head, extentBytes, barBytes, rowBytes, scaleBytes, fieldBytes, frameOf, labelFrame}
 use Rattle.laddertick.specs.Table.{Holds}
 use Rattle.laddertick.specs.Distinct.{table}
 
 -- a proof for each row, in the table's order
 pub distinct : Holds table
-unfolding flatten toBits ofBits ofInt mul div lt before after beforeLast fields withoutTrailingCommas need low high numberSpelled sizeOr pointOf exactly placed rotationOf cellOf widthOf fontOf textFields textElement textReading lineFields lineElement lineReading cornersAt sizedAt drawnAt diagonalReading boxReading symbologyOf two.symbologyOf barcodeFields code128 interleaved code39 ean13 ean8 upcA upcE barcodeAt barcodeReading ratioOf aztecSize aztecOf datamatrixOf modeOf pdf417ModuleWidth pdf417RowHeight pdf417Truncate pdf417Of qrOf levelOf aztecReading datamatrixReading maxicodeReading pdf417Reading qrReading barcode2dReading headerAt headerPlace postal autoMode optionsOf lastCount lastNumber lastClamped opensGw closes afterHeaderField headerNumber fourClosed payloadOf gwNumbers measured gwSpan isReference isPrint commandOf referenceOf paramsOf quotedReading readLine flush handing answer step trace first wellFormed faultOf be32 head extentBytes barBytes rowBytes scaleBytes fieldBytes frameOf
+unfolding flatten toBits ofBits ofInt mul div lt before after beforeLast fields withoutTrailingCommas need low high numberSpelled sizeOr pointOf exactly placed rotationOf cellOf widthOf fontOf textFields textElement textReading lineFields lineElement lineReading cornersAt sizedAt drawnAt diagonalReading boxReading symbologyOf two.symbologyOf barcodeFields code128 interleaved code39 ean13 ean8 upcA upcE barcodeAt barcodeReading ratioOf aztecSize aztecOf datamatrixOf modeOf pdf417ModuleWidth pdf417RowHeight pdf417Truncate pdf417Of qrOf levelOf aztecReading datamatrixReading maxicodeReading pdf417Reading qrReading barcode2dReading headerAt headerPlace postal autoMode optionsOf lastCount lastNumber lastClamped opensGw closes afterHeaderField headerNumber fourClosed payloadOf gwNumbers measured gwSpan isReference isCounts isPrint commandOf countsOf referenceOf paramsOf quotedReading readLine flush handing answer step trace first wellFormed faultOf be32 head extentBytes barBytes rowBytes scaleBytes fieldBytes frameOf labelFrame
 distinct =
-    (refl, (refl, (refl, (refl, (refl, (refl, (refl, (refl, (refl, (refl, (refl, (refl, (refl, (refl, (refl, (refl, (refl, (refl, (refl, (refl, (refl, (refl, (refl, (refl, (refl, (refl, (refl, (refl, (refl, (refl, (refl, (refl, (refl, (refl, (refl, (refl, (refl, (refl, (refl, (refl, (refl, (refl, (refl, (refl, (refl, (refl, (refl, (refl, (refl, (refl, (refl, (refl, (refl, (refl, (refl, (refl, (refl, (refl, (refl, (refl, (refl, (refl, (refl, (refl, (refl, (refl, (refl, (refl, (refl, (refl, (refl, (refl, (refl, (refl, (refl, (refl, (refl, (refl, (refl, (refl, (refl, (refl, tt))))))))))))))))))))))))))))))))))))))))))))))))))))))))))))))))))))))))))))))))))
+    (refl, (refl, (refl, (refl, (refl, (refl, (refl, (refl, (refl, (refl, (refl, (refl, (refl, (refl, (refl, (refl, (refl, (refl, (refl, (refl, (refl, (refl, (refl, (refl, (refl, (refl, (refl, (refl, (refl, (refl, (refl, (refl, (refl, (refl, (refl, (refl, (refl, (refl, (refl, (refl, (refl, (refl, (refl, (refl, (refl, (refl, (refl, (refl, (refl, (refl, (refl, (refl, (refl, (refl, (refl, (refl, (refl, (refl, (refl, (refl, (refl, (refl, (refl, (refl, (refl, (refl, (refl, (refl, (refl, (refl, (refl, (refl, (refl, (refl, (refl, (refl, (refl, (refl, (refl, (refl, (refl, (refl, (refl, (refl, (refl, (refl, (refl, (refl, (refl, (refl, tt))))))))))))))))))))))))))))))))))))))))))))))))))))))))))))))))))))))))))))))))))))))))))

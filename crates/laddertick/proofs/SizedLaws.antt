@@ -85,7 +85,7 @@ SizedBy (reading.Element e) = Sized e
 SizedBy reading.Passed = Unit
 SizedBy reading.Clear = Unit
 SizedBy (reading.Reference x y) = Unit
-SizedBy reading.Print = Unit
+SizedBy (reading.Print m n) = Unit
 SizedBy (reading.Refused n) = Unit
 
 -- too few fields, or what is read

@@ -13,11 +13,12 @@ use Rattle.texts.proofs.FontLaws.{width-exact}
 use Rattle.draws.specs.Draw.{lineFields, lineElement, lineReading, cornersAt, sizedAt, drawnAt, diagonalReading, boxReading}
 use Rattle.graphics.specs.Block.{opensGw, closes, afterHeaderField, headerNumber, fourClosed, payloadOf, gwNumbers, measured, gwSpan}
 use Rattle.spelling.specs.Command.{isReference, isPrint, commandOf}
+use Rattle.spelling.specs.Print.{isCounts, countsOf}
 use Rattle.spelling.specs.Reference.{referenceOf}
 use Rattle.commands.specs.Line.{paramsOf, quotedReading, readLine}
 use Rattle.whole.specs.Step.{handing, answer, step}
 use Rattle.whole.specs.Trace.{trace}
-use Rattle.element_frames.specs.Frame.{be32, head, extentBytes, fieldBytes, frameOf}
+use Rattle.element_frames.specs.Frame.{be32, head, extentBytes, fieldBytes, frameOf, labelFrame}
 use Rattle.grammar.specs.WellFormed.{wellFormed, faultOf}
 use Rattle.grammar.specs.Found.{first}
 use Rattle.grammar.specs.Normal.{chunk, normalised}
@@ -26,6 +27,6 @@ use Rattle.laddertick.specs.Starred.{table}
 
 -- a proof for each row, in the table's order
 pub starred : Holds table
-unfolding before after beforeLast fields withoutTrailingCommas numberSpelled sizeOr pointOf exactly placed rotationOf isReference isPrint commandOf referenceOf cellOf fontOf textFields textElement textReading lineFields lineElement lineReading cornersAt sizedAt drawnAt diagonalReading boxReading paramsOf quotedReading readLine opensGw closes afterHeaderField headerNumber fourClosed payloadOf gwNumbers measured gwSpan handing answer step wellFormed faultOf first chunk normalised trace be32 head extentBytes fieldBytes frameOf
+unfolding before after beforeLast fields withoutTrailingCommas numberSpelled sizeOr pointOf exactly placed rotationOf isReference isCounts isPrint commandOf countsOf referenceOf cellOf fontOf textFields textElement textReading lineFields lineElement lineReading cornersAt sizedAt drawnAt diagonalReading boxReading paramsOf quotedReading readLine opensGw closes afterHeaderField headerNumber fourClosed payloadOf gwNumbers measured gwSpan handing answer step wellFormed faultOf first chunk normalised trace be32 head extentBytes fieldBytes frameOf labelFrame
 starred =
-    (refl, (refl, (refl, (refl, (refl, (refl, (refl, (refl, (refl, (refl, (rw (width-exact 12 16 (lit< tt) (lit< tt) (lit< tt)), (refl, (refl, (refl, (refl, (refl, (refl, (refl, (refl, (refl, (refl, (refl, (refl, (refl, (refl, (refl, (refl, (refl, (refl, tt)))))))))))))))))))))))))))))
+    (refl, (refl, (refl, (refl, (refl, (refl, (refl, (refl, (refl, (refl, (refl, (rw (width-exact 12 16 (lit< tt) (lit< tt) (lit< tt)), (refl, (refl, (refl, (refl, (refl, (refl, (refl, (refl, (refl, (refl, (refl, (refl, (refl, (refl, (refl, (refl, (refl, (refl, tt))))))))))))))))))))))))))))))

@@ -76,6 +76,6 @@ pub answered-is : (s : List ℕ) (p : List (List ℕ)) (xs : List Answer) → th
 answered-is s p [] = refl
 answered-is s p (Element w e ∷ xs) = answered-is s (p ++ (frameOf s e ∷ [])) xs
 answered-is s p (Clear w ∷ xs) = answered-is s [] xs
-answered-is s p (Print w q ∷ xs) = λ i. record { count = q .count; says = tt; frames = p } ∷ answered-is s [] xs i
+answered-is s p (Print w q ∷ xs) = λ i. record { count = q .count; says = q .counts; frames = p } ∷ answered-is s [] xs i
 answered-is s p (End w ∷ xs) = answered-is s p xs
 answered-is s p (Refused w k n ∷ xs) = answered-is s p xs

@@ -18,10 +18,18 @@ abbrev packed : String → List ℕ → List ℕ
 packed string.[] t = t
 packed (string._∷_ c s) t = cond (eqb (code c) 32) (packed s t) (code c ∷ packed s t)
 
--- a command at the reference 100,200 (hexadecimal 64, c8), and the frame of its element; blanks in a frame are for the
--- eye
+-- a command at the reference 100,200 (hexadecimal 64, c8), printed in 11 sets of 12 copies (0b, 0c), and the frame of
+-- its element; blanks in a frame are for the eye
 abbrev alone : String → String → Case
-alone c f = lists (spelt "R100,200\n" (spelt c (ascii "\nP1\n"))) (spelt "0000000001\n" (packed f (ascii "\n")))
+alone c f =
+    lists (spelt "R100,200\n" (spelt c (ascii "\nP11,12\n")))
+    (spelt "00000000010000000b0000000c\n" (packed f (ascii "\n")))
+
+-- a print line behind a line of one dot, and what its label's frame has behind the element count
+abbrev counts : String → String → Case
+counts p f =
+    lists (spelt "LO,,,\n" (spelt p (ascii "\n")))
+    (spelt "0000000001" (packed f (ascii "\n02000000000000000000000001000000010000000100\n")))
 
 -- a file, and all its frames
 abbrev several : String → String → Case
@@ -147,16 +155,28 @@ table =
     -- "Fewer than two quotes, or no data: nothing is read"
     ∷ several "A0,0,0,1,1,1,N,\"x\nb0,0,Q\"\"\nP1\n" ""
     -- "what follows its leading ASCII blanks": 20, 09, 0c, 0d before `GW`, and 0b, after which it is passed over
-    ∷ several " \t\u{c}\rGW1,2,1,2,a\nP1\n" "0000000001\n04 00000001 00000002 00000001 00000002 00000002 610a\n"
+    ∷ several " \t\u{c}\rGW1,2,1,2,a\nP1\n" "00 00000001 00000001 00000001\n04 00000001 00000002 00000001 00000002 00000002 610a\n"
     ∷ several "\u{b}GW1,2,1,2,a\nP1\n" ""
     -- "prints if something is pending, and the reference stays"; "nothing is then pending"
     ∷ several "P1\nR1,2\nLO1,2,9,4\nP1\nP\nLO1,2,9,5\nP2\n"
-    "0000000001\n02 00000002 00000004 00000009 00000004 00000004 00\n0000000001\n02 00000002 00000004 00000009 00000005 00000005 00\n"
+    "00 00000001 00000001 00000001\n02 00000002 00000004 00000009 00000004 00000004 00\n00 00000001 00000002 00000001\n02 00000002 00000004 00000009 00000005 00000005 00\n"
+    -- "label sets and, after a comma, copies": two elements, three sets, four copies; "A count that is absent or too
+    -- large for signed 32 bits is 1"
+    ∷ several "LO,,,\nLW,,,\nP3,4\n"
+    "00 00000002 00000003 00000004\n02 00000000 00000000 00000001 00000001 00000001 00\n02 00000000 00000000 00000001 00000001 00000001 01\n"
+    ∷ counts "P" "00000001 00000001"
+    ∷ counts "P0" "00000000 00000001"
+    ∷ counts "P4294967297" "00000001 00000001"
+    ∷ counts "P00000000000002,3" "00000002 00000003"
+    ∷ counts " P2147483647,2147483648\t" "7fffffff 00000001"
+    ∷ counts "P2147483648,2147483647" "00000001 7fffffff"
+    -- "`P`, at least one digit, comma, at least one digit .., no blanks between": none of these prints
+    ∷ several "LO,,,\nP,1\nP1,\nP1,1,1\nP1 ,1\nP1, 1\nP+1\nP1,-1\n" "fe 00000001\n"
     -- "within signed 32 bits, else its default"; "Unicode blanks off", as c2 a0
     ∷ several "LO2147483648,-2147483649,+9,Â\u{a0}4 \nP1\n"
-    "0000000001\n02 00000000 00000000 00000009 00000004 00000004 00\n"
+    "00 00000001 00000001 00000001\n02 00000000 00000000 00000009 00000004 00000004 00\n"
     ∷ several "LO2147483647,-2147483648,12O,- 4\nP1\n"
-    "0000000001\n02 7fffffff 80000000 00000001 00000001 00000001 00\n"
+    "00 00000001 00000001 00000001\n02 7fffffff 80000000 00000001 00000001 00000001 00\n"
     -- "4 `LO`/`LW`/`LE`, .. with too few fields"
     ∷ case "LEFT JAR" (refused 4 0 fresh ∷ [])
     -- "13 a sum with the reference": of x, of y

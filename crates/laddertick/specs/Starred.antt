@@ -11,7 +11,7 @@ use Rattle.elements.specs.declared.LabelElement.the-variants.{Text, GraphicBox,
 use Rattle.elements.specs.declared.LabelPosition.{LabelPosition}
 use Rattle.elements.specs.declared.LineColor.the-variants.{Black}
 use Rattle.whole.specs.Step.{state, element, cleared, printed, ended, refused}
-use Rattle.grammar.specs.Epl.{origin}
+use Rattle.grammar.specs.Epl.{origin, EplPrint}
 use Rattle.walk.specs.Steps.{EplAnswer}
 use Rattle.laddertick.specs.Table.{fresh, Case, case, normal, listing}
 
@@ -24,6 +24,10 @@ closes n k = ended (state n origin k) ∷ []
 -- one element that reaches to the end
 abbrev alone : ℕ → LabelElement → List EplAnswer
 alone n e = element e (state n origin 1) ∷ closes n 1
+
+-- one set, one copy
+abbrev once : EplPrint
+once = record { sets = pos 1; copies = pos 1 }
 
 -- a whole number as f64
 abbrev f64 : ℕ → Float
@@ -72,14 +76,16 @@ table =
     ∷ case "R1,2\nLO1,2,3,4\nN\nLO1,2,3,4"
     (element (box (point 2 4) 3 4 3) (state 15 (point 1 2) 1) ∷ cleared (state 17 origin 0)
     ∷ alone 26 (box (point 1 2) 3 4 3))
-    -- "`P1,1` isn't a print line.": both boxes are pending at the end, where `P1` prints the first before the second is
-    -- read
+    -- "the starred `P1,1` turns": it prints the first box, as `P1` does; `P1,` prints nothing, and both are pending
     ∷ case "LO1,2,3,4\nP1,1\nLO5,6,7,8\n"
-    (element (box (point 1 2) 3 4 3) (state 10 origin 1) ∷ element (box (point 5 6) 7 8 7) (state 25 origin 2)
-    ∷ closes 25 2)
+    (element (box (point 1 2) 3 4 3) (state 10 origin 1) ∷ printed 1 once (state 15 origin 0)
+    ∷ alone 25 (box (point 5 6) 7 8 7))
     ∷ case "LO1,2,3,4\nP1\nLO5,6,7,8\n"
-    (element (box (point 1 2) 3 4 3) (state 10 origin 1) ∷ printed 1 tt (state 13 origin 0)
+    (element (box (point 1 2) 3 4 3) (state 10 origin 1) ∷ printed 1 once (state 13 origin 0)
     ∷ alone 23 (box (point 5 6) 7 8 7))
+    ∷ case "LO1,2,3,4\nP1,\nLO5,6,7,8\n"
+    (element (box (point 1 2) 3 4 3) (state 10 origin 1) ∷ element (box (point 5 6) 7 8 7) (state 24 origin 2)
+    ∷ closes 24 2)
     -- "`A1,2,0,1,1,1,,"x"`: refused 1."
     ∷ case "A1,2,0,1,1,1,,\"x\"" (refused 1 0 fresh ∷ [])
     -- "`N` in the seventh field: height 12, width 12. With multipliers 2,1: height 12, width 16."
@@ -110,12 +116,12 @@ table =
     ∷ normal " GW1,2,1,3,a\n N\n" " GW1,2,1,3,a\n \nN\n"
     -- the worked example: "`R10,20`, `LO5,6,30,4`, `P1`, each with LF"
     ∷ case "R10,20\nLO5,6,30,4\nP1\n"
-    (element (box (point 15 26) 30 4 4) (state 18 (point 10 20) 1) ∷ printed 1 tt (state 21 (point 10 20) 0)
+    (element (box (point 15 26) 30 4 4) (state 18 (point 10 20) 1) ∷ printed 1 once (state 21 (point 10 20) 0)
     ∷ ended (state 21 (point 10 20) 0) ∷ [])
-    ∷ listing "R10,20\nLO5,6,30,4\nP1\n" "0000000001\n020000000f0000001a0000001e000000040000000400\n"
+    ∷ listing "R10,20\nLO5,6,30,4\nP1\n" "00000000010000000100000001\n020000000f0000001a0000001e000000040000000400\n"
     -- "the listing ends with frame fe and their count, only if there are some": two boxes behind the print line
     ∷ listing "R10,20\nLO5,6,30,4\nP1\nLO1,2,3,4\nLO5,6,7,8\n"
-    "0000000001\n020000000f0000001a0000001e000000040000000400\nfe00000002\n"
+    "00000000010000000100000001\n020000000f0000001a0000001e000000040000000400\nfe00000002\n"
     -- "`N` drops what is pending": none are left
     ∷ listing "LO1,2,3,4\nN\n" ""
     ∷ []

@@ -40,6 +40,6 @@ abbrev pub answered : List ℕ → List (List ℕ) → List Answer → List Fram
 answered s p [] = []
 answered s p (Element w e ∷ xs) = answered s (p ++ (frameOf s e ∷ [])) xs
 answered s p (Clear w ∷ xs) = answered s [] xs
-answered s p (Print w q ∷ xs) = record { count = q .count; says = tt; frames = p } ∷ answered s [] xs
+answered s p (Print w q ∷ xs) = record { count = q .count; says = q .counts; frames = p } ∷ answered s [] xs
 answered s p (End w ∷ xs) = answered s p xs
 answered s p (Refused w k n ∷ xs) = answered s p xs

@@ -12,5 +12,5 @@ laterReading n Passed = Passed
 laterReading n Clear = Clear
 laterReading n (Reference x y) = Reference x y
 laterReading n (Element e) = Element (shifted n e)
-laterReading n Print = Print
+laterReading n (Print sets copies) = Print sets copies
 laterReading n (Refused k) = Refused k

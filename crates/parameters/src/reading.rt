@@ -10,7 +10,7 @@ pub enum LineReading {
     Reference(i32, i32),
     // An element; its data's place is counted from where its reader was told to count.
     Element(LabelElement),
-    // `P`: what is pending is printed.
-    Print,
+    // `P`: what is pending is printed, with sets and copies.
+    Print(i32, i32),
     Refused(Refusal),
 }

@@ -6,9 +6,10 @@ use mathlib.Core.List.{List}
 use lib.Dec.{eqb}
 use lib.ListN.{getD, drop}
 use Rattle.text.specs.Ascii.{ascii, letter}
-use Rattle.text.specs.Class.{isDigit, allDigits}
+use Rattle.text.specs.Class.{isDigit}
 use Rattle.text.specs.Fields.{same}
 use Rattle.elements.specs.declared.LineColor.the-variants.{Black, White, Xor}
+use Rattle.spelling.specs.Print.{isCounts}
 use Rattle.spelling.specs.declared.command.Command.{Command}
 use Rattle.spelling.specs.declared.command.Command.the-variants.{Clear, Reference, Data, Line, Diagonal, Box}
 use Rattle.spelling.specs.declared.command.Command.the-variants.{Print, Other}
@@ -26,9 +27,9 @@ second c t = eqb (getD t 1 0) (letter c)
 unfoldable pub isReference : List ℕ → Bool
 isReference t = first "R" t && isDigit (getD t 1 0)
 
--- "`P` or `P` with digits"
+-- `P` and nothing, a count, or two counts
 unfoldable pub isPrint : List ℕ → Bool
-isPrint t = first "P" t && allDigits (drop 1 t)
+isPrint t = first "P" t && isCounts (drop 1 t)
 
 -- the command of a line whose blanks are off, "Tested in this order"
 unfoldable pub commandOf : List ℕ → Command

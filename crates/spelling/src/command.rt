@@ -4,7 +4,7 @@ ghost use mathlib.Core.List.{[], _∷_};
 ghost use lib.ListN.{getD};
 ghost use Rattle.text.specs.Ascii.{spelt};
 ghost use Rattle.spelling.specs.Command.{isReference, isPrint, commandOf};
-use bytes::class::all_digits;
+use crate::print::is_counts;
 use classes::class::is_digit;
 use elements::LineColor;
 use parameters::params::tail;
@@ -43,11 +43,11 @@ pub(crate) fn is_epl_reference_point(t: &[u8]) -> bool
     (byte_at(t, 0) == b'R') & is_digit(byte_at(t, 1))
 }
 
-// `P`, or `P` and digits alone.
+// `P`, or `P` and a count, or `P` and two counts with a comma between them.
 pub(crate) fn is_epl_print_command(t: &[u8]) -> bool
     ensures { λ r. ⌜ r ≡ isPrint (now (t .entry)) ⌝ }
 {
-    (byte_at(t, 0) == b'P') & all_digits(tail(t))
+    (byte_at(t, 0) == b'P') & is_counts(tail(t))
 }
 
 // An `L` and the byte b: `LO`, `LW`, `LE`, `LS`.

@@ -1,3 +1,4 @@
-// Which command a line spells, and `R`, which sets the reference point.
+// Which command a line spells; `R`, which sets the reference point, and `P`, which prints.
 pub mod command;
+pub mod print;
 pub mod reference;

@@ -1,6 +1,6 @@
 -- Classes of bytes: digits and letters.
-use Prim.Native.Nat.{ℕ}
-use mathlib.Core.Bool.{Bool, true, _||_, _&&_}
+use Prim.Native.Nat.{ℕ, zero, suc}
+use mathlib.Core.Bool.{Bool, true, cond, _||_, _&&_}
 use mathlib.Core.List.{List, [], _∷_}
 use Rattle.text.specs.Utf8.{within}
 
@@ -16,3 +16,8 @@ isLetter b = within 65 90 b || within 97 122 b
 abbrev pub allDigits : List ℕ → Bool
 allDigits [] = true
 allDigits (b ∷ s) = isDigit b && allDigits s
+
+-- how many digits a text begins with
+abbrev pub digitRun : List ℕ → ℕ
+digitRun [] = zero
+digitRun (b ∷ s) = cond (isDigit b) (suc (digitRun s)) zero

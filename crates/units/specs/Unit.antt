@@ -13,4 +13,4 @@ unitOf (unit.Fault k) = theory.fault (numberOf k)
 unitOf (unit.Passed size r) = theory.passes size r
 unitOf (unit.Cleared size) = theory.clears-to size origin
 unitOf (unit.Element e size) = theory.gives size e
-unitOf (unit.Print size) = theory.asks-print size tt
+unitOf (unit.Print size sets copies) = theory.asks-print size (record { sets = sets; copies = copies })

@@ -28,7 +28,8 @@ pub enum Reading {
     Passed(usize, LabelPosition),
     Cleared(usize),
     Element(LabelElement, usize),
-    Print(usize),
+    // With sets and copies.
+    Print(usize, i32, i32),
 }
 
 // A line of so many bytes, by what it says.
@@ -40,7 +41,7 @@ fn line_unit(size: usize, said: LineReading, reference: LabelPosition) -> Readin
         LineReading::Clear => Reading::Cleared(size),
         LineReading::Reference(x, y) => Reading::Passed(size, LabelPosition { x, y }),
         LineReading::Element(e) => Reading::Element(e, size),
-        LineReading::Print => Reading::Print(size),
+        LineReading::Print(sets, copies) => Reading::Print(size, sets, copies),
         LineReading::Refused(n) => Reading::Fault(n),
     }
 }

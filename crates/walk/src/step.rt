@@ -6,6 +6,7 @@ ghost use Rattle.walk.specs.Steps.{stateOf, answerOf};
 use crate::answer::Answer;
 use crate::answer::Printed;
 use elements::LabelPosition;
+use elements::PrintCounts;
 use elements::refusal::LONGEST;
 use elements::refusal::Refusal;
 use elements::walk_state::WalkState;
@@ -63,7 +64,7 @@ pub fn step(input: &[u8], st: WalkState) -> Answer
                     e,
                 );
             }
-            Reading::Print(size) => {
+            Reading::Print(size, sets, copies) => {
                 if 0 < n {
                     return Answer::Print(
                         WalkState {
@@ -71,7 +72,10 @@ pub fn step(input: &[u8], st: WalkState) -> Answer
                             reference,
                             pending: 0,
                         },
-                        Printed { count: n },
+                        Printed {
+                            count: n,
+                            counts: PrintCounts { sets, copies },
+                        },
                     );
                 }
                 at += size;

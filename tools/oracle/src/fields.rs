@@ -1,15 +1,17 @@
-//! The fields of frames that the Rust has not: the font's number and the multipliers of a text (01), the wide bar of 2 of 5 (09) and Code 39 (0a).
+//! The fields of frames that the Rust has not: the sets and copies of a label (00), the font's number and the multipliers of a text (01), the wide bar of 2 of 5
+//! (09) and Code 39 (0a).
 //!
 //! A run against the Rust leaves exactly their bytes out of our frames (`without`). What they hold is told from the input (`told`), by a reading of its lines
 //! that is written from the scope document and shares nothing with the library: font "1 by default", multipliers "1 by default, least value 1", wide bar
-//! "2 by default".
+//! "2 by default", "A count that is absent or too large for signed 32 bits is 1".
 
 use crate::{block_end, unit_end, Answer, Labels};
 
-/// Where they stand in a frame's line and how many numbers they are, in digits: behind kind, x, y, rotation and reverse flag; behind kind, x, y, rotation, narrow,
-/// height, line and check.
+/// Where they stand in a frame's line and how many numbers they are, in digits: behind kind and count; behind kind, x, y, rotation and reverse flag; behind kind, x,
+/// y, rotation, narrow, height, line and check.
 fn place(line: &str) -> Option<(usize, usize)> {
     match line.get(..2) {
+        Some("00") => Some((10, 2)),
         Some("01") => Some((22, 3)),
         Some("09" | "0a") => Some((40, 1)),
         _ => None,
@@ -34,18 +36,18 @@ pub fn without(listing: &str) -> String {
 pub fn told(input: &[u8], answer: &Answer) -> Answer {
     match answer {
         Answer::Labels(labels) if are_in(labels) => {
-            let (printed, pending) = elements(input);
+            let (printed, pending) = frames(input);
             Answer::Labels(Labels { printed: with(&labels.printed, printed), pending: with(&labels.pending, pending) })
         }
         other => other.clone(),
     }
 }
 
-/// The numbers of each element in the order of the listing, put into their frames.
-fn with(listing: &str, elements: Vec<Vec<i32>>) -> String {
-    let mut elements = elements.into_iter();
+/// The numbers of each label and element in the order of the listing, put into their frames.
+fn with(listing: &str, frames: Vec<Vec<i32>>) -> String {
+    let mut frames = frames.into_iter();
     let lines = listing.lines().map(|line| {
-        let numbers = if line.starts_with("00") { Vec::new() } else { elements.next().expect("a frame for each element") };
+        let numbers = frames.next().expect("a frame for each label and element");
         match place(line) {
             Some((at, n)) => {
                 assert_eq!(numbers.len(), n, "the line behind {line}");
@@ -58,16 +60,16 @@ fn with(listing: &str, elements: Vec<Vec<i32>>) -> String {
     lines.collect()
 }
 
-/// What a unit does: `N`, a print line, an element with its numbers, or nothing that a label shows.
+/// What a unit does: `N`, a print line with its counts, an element with its numbers, or nothing that a label shows.
 enum Says {
     Clear,
-    Print,
+    Print(Vec<i32>),
     Element(Vec<i32>),
     Nothing,
 }
 
-/// The elements of an accepted input that are printed, in order, and those that are pending at its end.
-fn elements(input: &[u8]) -> (Vec<Vec<i32>>, Vec<Vec<i32>>) {
+/// The labels of an accepted input, each with its elements behind it, and the elements that are pending at its end.
+fn frames(input: &[u8]) -> (Vec<Vec<i32>>, Vec<Vec<i32>>) {
     let (mut printed, mut pending, mut place) = (Vec::new(), Vec::new(), 0);
     while place < input.len() {
         let end = unit_end(input, place);
@@ -77,7 +79,11 @@ fn elements(input: &[u8]) -> (Vec<Vec<i32>>, Vec<Vec<i32>>) {
         };
         match says {
             Says::Clear => pending.clear(),
-            Says::Print => printed.append(&mut pending),
+            Says::Print(_) if pending.is_empty() => {}
+            Says::Print(counts) => {
+                printed.push(counts);
+                printed.append(&mut pending);
+            }
             Says::Element(numbers) => pending.push(numbers),
             Says::Nothing => {}
         }
@@ -89,7 +95,6 @@ fn elements(input: &[u8]) -> (Vec<Vec<i32>>, Vec<Vec<i32>>) {
 /// 01, "Grammar", in its order.
 fn line_says(line: &str) -> Says {
     let behind = |letter: char| line.strip_prefix(letter);
-    let digits = |text: &str| text.bytes().all(|b| b.is_ascii_digit());
     if line == "N" {
         return Says::Clear;
     }
@@ -105,9 +110,18 @@ fn line_says(line: &str) -> Says {
     if ["LO", "LW", "LE", "LS", "X"].iter().any(|letters| line.starts_with(letters)) {
         return Says::Element(Vec::new());
     }
-    match behind('P') {
-        Some(rest) if digits(rest) => Says::Print,
-        _ => Says::Nothing,
+    match behind('P').and_then(counts) {
+        Some((sets, copies)) => Says::Print(vec![sets.parse().unwrap_or(1), copies.parse().unwrap_or(1)]),
+        None => Says::Nothing,
+    }
+}
+
+/// What stands behind the `P` of a print line: nothing, digits, or "at least one digit, comma, at least one digit"; as digits of sets and of copies.
+pub(crate) fn counts(text: &str) -> Option<(&str, &str)> {
+    let digits = |text: &str| text.bytes().all(|b| b.is_ascii_digit());
+    match text.split_once(',') {
+        None => digits(text).then_some((text, "")),
+        Some((sets, copies)) => (digits(sets) && digits(copies) && !sets.is_empty() && !copies.is_empty()).then_some((sets, copies)),
     }
 }
 

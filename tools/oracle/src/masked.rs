@@ -8,14 +8,59 @@
 //! labels of a copy with a line `N` behind it, which drops what is pending. The elements of that label are the ones that are pending at the end, and their
 //! number is the count of frame fe.
 
+//!
+//! A print line has one count there, and two here. It is asked about a copy with the comma and the copies cut from such lines; the places of refusals behind a cut
+//! are told as they are in the input. What the counts say is no part of its answer (`fields`).
+
 use crate::panics::{self, Cause};
-use crate::{unit_end, Answer, Labels, LIMIT};
+use crate::{fields, unit_end, Answer, Labels, LIMIT};
+use std::ops::Range;
 
 /// What 01 answers, and why the Rust panics where it does. Never `Answer::Panic`.
 pub fn answer(input: &[u8]) -> (Answer, Option<Cause>) {
     if input.len() > LIMIT {
         return (Answer::Refused(14, 0), None);
     }
+    let cuts = copies(input);
+    if cuts.is_empty() {
+        return at_the_end(input);
+    }
+    let mut copy = input.to_vec();
+    cuts.iter().rev().for_each(|cut| drop(copy.drain(cut.clone())));
+    match at_the_end(&copy) {
+        (Answer::Refused(number, place), cause) => (Answer::Refused(number, uncut(place, &cuts)), cause),
+        other => other,
+    }
+}
+
+/// Where the comma and the copies of each print line with two counts stand.
+pub fn copies(input: &[u8]) -> Vec<Range<usize>> {
+    // Short of a long look at inputs that cannot have one.
+    if !input.windows(2).any(|pair| pair[0] == b'P' && pair[1].is_ascii_digit()) {
+        return Vec::new();
+    }
+    let (mut cuts, mut place) = (Vec::new(), 0);
+    while place < input.len() {
+        let end = unit_end(input, place);
+        let text = String::from_utf8_lossy(&input[place..end]);
+        if let Some((sets, copies @ [_, ..])) = text.trim().strip_prefix('P').and_then(fields::counts).map(|(s, c)| (s, c.as_bytes())) {
+            // No blank has the byte `P` in it.
+            let letter = input[place..end].iter().position(|&b| b == b'P').expect("the line begins with it");
+            let comma = place + letter + 1 + sets.len();
+            cuts.push(comma..comma + 1 + copies.len());
+        }
+        place = end;
+    }
+    cuts
+}
+
+/// Where the unit stands in the input that stands at a place of the copy without the cuts.
+fn uncut(place: usize, cuts: &[Range<usize>]) -> usize {
+    cuts.iter().fold(place, |place, cut| if cut.start < place { place + cut.len() } else { place })
+}
+
+/// What 01 answers where a print line has one count.
+fn at_the_end(input: &[u8]) -> (Answer, Option<Cause>) {
     match with_colours(input) {
         (Answer::Labels(all), cause) if !all.printed.is_empty() => (Answer::Labels(unprinted(input, &all.printed)), cause),
         other => other,

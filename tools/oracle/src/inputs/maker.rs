@@ -174,7 +174,7 @@ impl Maker {
     }
 
     pub fn print(&mut self) -> Vec<u8> {
-        let counts: &[&[u8]] = if self.is_odd() { &[b"1,1", b" 1", b"x", b"-1", b"\xff"] } else { &[b"", b"1", b"12", b"000"] };
+        let counts: &[&[u8]] = if self.is_odd() { &[b"1,", b",1", b"1,1,1", b"1 ,1", b"1, 1", b"+1,1", b" 1", b"x", b"-1", b"\xff"] } else { PRINTS };
         let count: &[u8] = self.rng.pick(counts);
         [b"P", count].concat()
     }

@@ -71,6 +71,11 @@ pub const OPTIONS: &[&[u8]] = &[
     b"s-5", b"s+5", b"s 5", b"\xff", b"s\xff5", b"", b"s2147483647", b"s2147483648", b"c2147483648", b"r4294967297", b"7s7", b"\xc3\xa9s4",
 ];
 
+/// Counts of print lines, one or two, at the limit of 32 bits too.
+pub const PRINTS: &[&[u8]] = &[
+    b"", b"1", b"12", b"000", b"1,1", b"3,4", b"0,00", b"00000000000002,3", b"2147483647,2147483648", b"4294967297", b"2147483648,7", b"5,99999999999999999999",
+];
+
 /// The header that MaxiCode's mode hangs on.
 pub const HEADER: &[u8] = b"[)>\x1e01\x1d";
 

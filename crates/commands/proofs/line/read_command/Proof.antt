@@ -19,11 +19,15 @@ returns-5 c = simp (c .before .before .enum-told3 .given .1) (simp (c .before .t
 returns-6 : tie.Need-returns-6
 returns-6 c = simp (c .before .before .enum-told4 .given .1) (simp (c .before .tail2 .ensures) at (c .parse-epl-box .ensures))
 
+returns-7 : tie.Need-returns-7
+returns-7 c = simp (c .before .before .before .enum-told5 .given .1) (simp (c .before .parse-epl-print .ensures, c .before .before .tail3 .ensures) at (c .prints .ensures))
+
 pub read-command-spec : {M : Type 1} → statement M
 read-command-spec =
     tie.close (tie.spec
     (λ c. search needs) (λ c. search needs) (λ c κs. search needs) (λ c κs. search needs) (λ c κs. search needs)
     (λ c. search needs) (λ c κs. search needs) (λ c. search needs) (λ c κs. search needs) (λ c κs. search needs)
     (λ c. search needs) (λ c κs. search needs) (λ c κs. search needs) (λ c. search needs) (λ c κs. search needs)
-    (λ c κs. search needs) (λ c. search needs) (λ c. search needs) (λ c. search needs)
-    returns-2 returns-3 returns-4 returns-5 returns-6 (λ c. search needs) (λ c. search needs))
+    (λ c κs. search needs) (λ c. search needs) (λ c κs. search needs) (λ c κs. search needs) (λ c κs. search needs)
+    (λ c. search needs) (λ c. search needs)
+    returns-2 returns-3 returns-4 returns-5 returns-6 returns-7 (λ c. search needs))

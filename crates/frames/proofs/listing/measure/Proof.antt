@@ -31,7 +31,7 @@ sizeFrom s total pend (stops n) = bytes (total + length (pendingLine n))
 sizeFrom s total pend (refuses n k) = refused n k
 sizeFrom s total pend (yields e t) = sizeFrom s total (pend + (2 * length (frameOf s e) + 1)) t
 sizeFrom s total pend (clears t) = sizeFrom s total 0 t
-sizeFrom s total pend (prints n q t) = sizeFrom s (total + (11 + pend)) 0 t
+sizeFrom s total pend (prints n q t) = sizeFrom s (total + (27 + pend)) 0 t
 
 abbrev longer : ℕ → Given → Given
 longer k (bytes n) = bytes (k + n)

@@ -4,10 +4,10 @@ use mathlib.Core.List.{List, _++_}
 use Prim.Native.Nat.{ℕ}
 use native.Mathlib.Omega.{arith}
 use lib.ListN.{length-append}
-use Rattle.element_frames.specs.Frame.{countFrame}
+use Rattle.element_frames.specs.Frame.{labelFrame}
 use Rattle.element_frames.specs.Hex.{lineOf}
 use Rattle.frames.specs.Listing.{linesOf, frontFrames}
-use Rattle.frames.proofs.ListingLaws.{length-count, length-label}
+use Rattle.frames.proofs.ListingLaws.{length-frame, length-label}
 use Rattle.text.specs.Wrote.{Put}
 use Rattle.text.proofs.WroteLaws.{wrote, sets-append}
 use borrow.Author.Needs.{needs}
@@ -22,14 +22,14 @@ put-both {m} {n} {l} {at} {j} {r} xs ys a b =
       next = omega (arith, a .next, b .next, length-append xs ys);
     }
 
-put-count-requires : tie.Need-put-count-requires
-put-count-requires c κs = let a = c .before .before .before .args in omega (arith, length-label (a .n) tt (frontFrames (a .input .now) (a .first)))
+put-label-frame-requires : tie.Need-put-label-frame-requires
+put-label-frame-requires c κs = let a = c .before .before .before .before .args in omega (arith, length-label (a .p .count) (a .p .counts) (frontFrames (a .input .now) (a .first)))
 
 put-elements-requires : tie.Need-put-elements-requires
 put-elements-requires c κs =
     let k = c .before .before .before in
-    let a = k .before .before .before .before .args in
-    omega (arith, length-label (a .n) tt (frontFrames (a .input .now) (a .first)), k .put-count .ensures .next, k .put-count .ensures .wrote .long, length-count (a .n))
+    let a = k .before .before .before .before .before .args in
+    omega (arith, length-label (a .p .count) (a .p .counts) (frontFrames (a .input .now) (a .first)), k .put-label-frame .ensures .next, k .put-label-frame .ensures .wrote .long, length-frame (a .p .count) (a .p .counts))
 
 same-length : tie.Need-same-length
 same-length c = search needs
@@ -38,8 +38,8 @@ returns : tie.Need-returns
 returns c =
     let w = c .before .before in
     let k = w .before .before .before .before in
-    let a = k .before .before .before .before .args in
-    put-both (lineOf (countFrame (a .n))) (linesOf (frontFrames (a .input .now) (a .first))) (k .put-count .ensures) (w .put-elements .ensures)
+    let a = k .before .before .before .before .before .args in
+    put-both (lineOf (labelFrame (a .p .count) (a .p .counts))) (linesOf (frontFrames (a .input .now) (a .first))) (k .put-label-frame .ensures) (w .put-elements .ensures)
 
 pub put-label-spec : {M : Type 1} → statement M
-put-label-spec = tie.close (tie.spec put-count-requires put-elements-requires same-length returns)
+put-label-spec = tie.close (tie.spec put-label-frame-requires put-elements-requires same-length returns)

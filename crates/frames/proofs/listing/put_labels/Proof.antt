@@ -79,7 +79,7 @@ put-label-requires : tie.Need-put-label-requires Inv-loop μ-loop
 put-label-requires c κs =
     let d = c .before .before .before .before in
     let l = d .before .loop in
-    room (l .inv .0) (labelText (source d) (c .before .before .next3 .given .0 .1 .0 .count) (l .first)) (textFrom (source d) (c .before .before .next3 .given .0 .0)) (omega arith) (rest-is d (Print (c .before .before .next3 .given .0 .0) (c .before .before .next3 .given .0 .1 .0)) (c .before .before .next3 .given .1))
+    room (l .inv .0) (labelText (source d) (c .before .before .next3 .given .0 .1 .0) (l .first)) (textFrom (source d) (c .before .before .next3 .given .0 .0)) (omega arith) (rest-is d (Print (c .before .before .next3 .given .0 .0) (c .before .before .next3 .given .0 .1 .0)) (c .before .before .next3 .given .1))
 
 loop-less-3 : tie.Need-loop-less-3 Inv-loop μ-loop
 loop-less-3 c =

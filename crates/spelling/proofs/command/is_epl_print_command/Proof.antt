@@ -7,7 +7,7 @@ use Rattle.spelling.proofs.command.is_epl_print_command.Tie as tie
 
 returns : tie.Need-returns
 unfolding isPrint
-returns c = simp (c .all-digits .ensures, c .before .tail .ensures, c .before .before .byte-at .ensures)
+returns c = simp (c .is-counts .ensures, c .before .tail .ensures, c .before .before .byte-at .ensures)
 
 pub is-epl-print-command-spec : {M : Type 1} → statement M
 is-epl-print-command-spec =

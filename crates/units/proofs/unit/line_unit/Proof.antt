@@ -25,11 +25,11 @@ enum-known-said c = search needs
 enum-known-said-2 : tie.Need-enum-known-said-2
 enum-known-said-2 c = search needs
 
-enum-told-3 : tie.Need-enum-told-3
-enum-told-3 c = search needs
-
 enum-known-said-3 : tie.Need-enum-known-said-3
 enum-known-said-3 c = search needs
+
+enum-known-said-4 : tie.Need-enum-known-said-4
+enum-known-said-4 c = search needs
 
 returns : tie.Need-returns
 returns c = by (c .before .before .args .size) (c .before .before .args .reference) (c .enum-told .given .1)
@@ -47,10 +47,13 @@ returns-4 : tie.Need-returns-4
 returns-4 c = by (c .before .before .before .args .size) (c .before .before .before .args .reference) (c .before .said2 .given .1)
 
 returns-5 : tie.Need-returns-5
-returns-5 c = by (c .before .before .args .size) (c .before .before .args .reference) (c .enum-told3 .given .1)
+returns-5 c =
+    let k = c .known-told3 .given in
+    let g = c .before .said3 .given in
+    rw (back32 (g .0 .0) (k .0 .1), back32 (g .0 .1 .0) (k .1 .0 .1)) (by (c .before .before .before .args .size) (c .before .before .before .args .reference) (g .1))
 
 returns-6 : tie.Need-returns-6
-returns-6 c = by (c .before .before .before .args .size) (c .before .before .before .args .reference) (c .before .said3 .given .1)
+returns-6 c = by (c .before .before .before .args .size) (c .before .before .before .args .reference) (c .before .said4 .given .1)
 
 pub line-unit-spec : {M : Type 1} → statement M
 line-unit-spec =
@@ -60,8 +63,8 @@ line-unit-spec =
     enum-told-2
     enum-known-said
     enum-known-said-2
-    enum-told-3
     enum-known-said-3
+    enum-known-said-4
     returns
     returns-2
     returns-3

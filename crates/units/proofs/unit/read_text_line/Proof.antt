@@ -34,7 +34,7 @@ did-later at size r reading.Passed = refl
 did-later at size r reading.Clear = refl
 did-later at size r (reading.Reference x y) = refl
 did-later at size r (reading.Element e) = refl
-did-later at size r reading.Print = refl
+did-later at size r (reading.Print m n) = refl
 did-later at size r (reading.Refused n) = refl
 
 line-moved : (at size : ℕ) (r : LabelPosition) (t : List ℕ) → did size (actOf r (laterReading at (readLine t r))) ≡ moved epl at (lineTurn size r t)

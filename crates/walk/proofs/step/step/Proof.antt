@@ -12,6 +12,7 @@ use Rattle.whole.specs.Step.{step, answer, handing}
 use Rattle.whole.proofs.TurnLaws.{Fits, onReading, turn-at, fits-at, pass-on, print-none, print-some, step-long, step-past, step-many, step-within}
 use Rattle.grammar.specs.Epl.{epl}
 use Rattle.grammar.proofs.FoundLaws.{reads}
+use Rattle.numbers.proofs.IntLaws.{back32}
 use Rattle.units.specs.Unit.{unitOf}
 use Rattle.walk.specs.Steps.{stateOf}
 use Rattle.units.specs.declared.unit.Reading.{Reading}
@@ -105,8 +106,8 @@ loop-again c =
 enum-known-size-2 : tie.Need-enum-known-size-2 Inv-loop μ-loop
 enum-known-size-2 c = search needs
 
-add-t24 : tie.Need-add-t24 Inv-loop μ-loop
-add-t24 c = omega (arith, room (c .before .before .before) (Cleared (c .before .size2 .given .0 .0)) (c .before .size2 .given .1))
+add-t26 : tie.Need-add-t26 Inv-loop μ-loop
+add-t26 c = omega (arith, room (c .before .before .before) (Cleared (c .before .size2 .given .0 .0)) (c .before .size2 .given .1))
 
 returns-6 : tie.Need-returns-6 Inv-loop μ-loop
 returns-6 c = taken (c .before .before .before) (Cleared (c .before .size2 .given .0 .0)) (c .before .size2 .given .1)
@@ -114,11 +115,11 @@ returns-6 c = taken (c .before .before .before) (Cleared (c .before .size2 .give
 enum-known-e : tie.Need-enum-known-e Inv-loop μ-loop
 enum-known-e c = search needs
 
-add-t27 : tie.Need-add-t27 Inv-loop μ-loop
-add-t27 c = omega (arith, room (c .before .before .before) (Element (c .before .e .given .0 .0) (c .before .e .given .0 .1 .0)) (c .before .e .given .1))
+add-t29 : tie.Need-add-t29 Inv-loop μ-loop
+add-t29 c = omega (arith, room (c .before .before .before) (Element (c .before .e .given .0 .0) (c .before .e .given .0 .1 .0)) (c .before .e .given .1))
 
-add-t28 : tie.Need-add-t28 Inv-loop μ-loop
-add-t28 c = omega arith
+add-t30 : tie.Need-add-t30 Inv-loop μ-loop
+add-t30 c = omega arith
 
 returns-7 : tie.Need-returns-7 Inv-loop μ-loop
 returns-7 c = rw add-one (taken (c .before .before .before) (Element (c .before .e .given .0 .0) (c .before .e .given .0 .1 .0)) (c .before .e .given .1))
@@ -126,27 +127,31 @@ returns-7 c = rw add-one (taken (c .before .before .before) (Element (c .before 
 enum-known-size-3 : tie.Need-enum-known-size-3 Inv-loop μ-loop
 enum-known-size-3 c = search needs
 
-add-t31 : tie.Need-add-t31 Inv-loop μ-loop
-add-t31 c = omega (arith, room (c .before .before .before .before) (Print (c .before .before .size3 .given .0 .0)) (c .before .before .size3 .given .1))
+add-t33 : tie.Need-add-t33 Inv-loop μ-loop
+add-t33 c = let g = c .before .before .size3 .given in omega (arith, room (c .before .before .before .before) (Print (g .0 .0) (g .0 .1 .0) (g .0 .1 .1 .0)) (g .1))
 
 returns-8 : tie.Need-returns-8 Inv-loop μ-loop
 returns-8 c =
     let d = c .before .before .before .before in
     let l = d .before .before .loop in
-    sym (print-some epl tt _ (l .at + c .before .before .size3 .given .0 .0) (l .reference) (from d .pending) (omega arith)) ∙ taken d (Print (c .before .before .size3 .given .0 .0)) (c .before .before .size3 .given .1)
+    let g = c .before .before .size3 .given in
+    let k = c .before .known-told5 .given in
+    rw (back32 (g .0 .1 .0) (k .1 .0 .1), back32 (g .0 .1 .1 .0) (k .1 .1 .0 .1))
+    (sym (print-some epl _ _ (l .at + g .0 .0) (l .reference) (from d .pending) (omega arith)) ∙ taken d (Print (g .0 .0) (g .0 .1 .0) (g .0 .1 .1 .0)) (g .1))
 
 add-at-2 : tie.Need-add-at-2 Inv-loop μ-loop
-add-at-2 c = omega (arith, room (c .before .before .before .before) (Print (c .before .before .size3 .given .0 .0)) (c .before .before .size3 .given .1))
+add-at-2 c = let g = c .before .before .size3 .given in omega (arith, room (c .before .before .before .before) (Print (g .0 .0) (g .0 .1 .0) (g .0 .1 .1 .0)) (g .1))
 
 loop-less-2 : tie.Need-loop-less-2 Inv-loop μ-loop
-loop-less-2 c = omega (arith, room (c .before .before .before .before) (Print (c .before .before .size3 .given .0 .0)) (c .before .before .size3 .given .1))
+loop-less-2 c = let g = c .before .before .size3 .given in omega (arith, room (c .before .before .before .before) (Print (g .0 .0) (g .0 .1 .0) (g .0 .1 .1 .0)) (g .1))
 
 loop-again-2 : tie.Need-loop-again-2 Inv-loop μ-loop
 loop-again-2 c =
     let d = c .before .before .before .before in
     let l = d .before .before .loop in
-    let size = c .before .before .size3 .given .0 .0 in
-    (omega (arith, room d (Print size) (c .before .before .size3 .given .1)), sym (taken d (Print size) (c .before .before .size3 .given .1)) ∙ print-none epl tt _ (l .at + size) (l .reference) (from d .pending) (omega arith) ∙ pass-on epl (stateOf (from d)) (source d) (l .at) size (l .reference) (from d .pending))
+    let g = c .before .before .size3 .given in
+    let q = Print (g .0 .0) (g .0 .1 .0) (g .0 .1 .1 .0) in
+    (omega (arith, room d q (g .1)), sym (taken d q (g .1)) ∙ print-none epl _ _ (l .at + g .0 .0) (l .reference) (from d .pending) (omega arith) ∙ pass-on epl (stateOf (from d)) (source d) (l .at) (g .0 .0) (l .reference) (from d .pending))
 
 pub step-spec : {M : Type 1} → statement M
 step-spec =
@@ -171,14 +176,14 @@ step-spec =
     loop-less
     loop-again
     enum-known-size-2
-    add-t24
+    add-t26
     returns-6
     enum-known-e
-    add-t27
-    add-t28
+    add-t29
+    add-t30
     returns-7
     enum-known-size-3
-    add-t31
+    add-t33
     returns-8
     add-at-2
     loop-less-2
