@@ -50,6 +50,9 @@ enum {
     LADDERTICK_INPUT_TOO_LONG = 14,   /* more than LADDERTICK_LONGEST bytes; the place is 0 */
     LADDERTICK_OUTPUT_TOO_SHORT = 15, /* the place is the length that is needed */
     LADDERTICK_STATE_OUTSIDE = 16,    /* a walk whose place is past the end, or whose pending count is above its place; the place is the walk's */
+    /* The author again, at the first byte of the line, by the well-site profile alone (laddertick_check, laddertick_strict_list): */
+    LADDERTICK_NO_VALUE = 17,        /* a number field that holds no value: it is empty, no number, or a number beyond 32 bits */
+    LADDERTICK_OUTSIDE_PROFILE = 18, /* a value that the profile does not allow */
     /* The author again, at the first byte of the line: a difference of two corners, its absolute value or a font product outside 32 bits; directly after 13. */
     LADDERTICK_SIZE_OUT_OF_RANGE = 19
 };
@@ -139,7 +142,7 @@ laddertick_walk laddertick_start(void);
 
 /* The next element, clear, print, end or refusal. Lines that say none of these are passed. The end prints nothing: where `next.pending` is not 0 then, the file
    lacks the print line of its last elements, as one that was sent by halves does, and an operator should learn of it.
-   Refusals: all but 15. A loop stops at LADDERTICK_END and at LADDERTICK_REFUSED: the next step from there answers the same again. */
+   Refusals: all but 15, 17 and 18. A loop stops at LADDERTICK_END and at LADDERTICK_REFUSED: the next step from there answers the same again. */
 laddertick_answer laddertick_step(const uint8_t *input, size_t input_len, laddertick_walk walk);
 
 /* ---- functions that write ---- */
@@ -156,11 +159,42 @@ typedef struct laddertick_written {
 laddertick_written laddertick_data(const uint8_t *input, size_t input_len, size_t start, size_t len, uint8_t *out, size_t out_len);
 
 /* The labels of a file as frames, one a line in hexadecimal (docs/FRAMES.md); behind them frame fe, if elements are pending at the end. The whole file is read
-   before anything is written. 16 * n bytes are always enough for n. Refusals: all but 16. */
+   before anything is written. 16 * n bytes are always enough for n. Refusals: all but 16, 17 and 18. */
 laddertick_written laddertick_list(const uint8_t *input, size_t input_len, uint8_t *out, size_t out_len);
 
 /* The file with blanks and empty lines taken away and graphics copied whole. n + n / 6 + 1 bytes are always enough for n. Refusals: 14, 15. */
 laddertick_written laddertick_normalise(const uint8_t *input, size_t input_len, uint8_t *out, size_t out_len);
+
+/* ---- the well-site profile: a strict reading, for files typed by hand ---- */
+
+/* Every number field that has a default must hold a value: of A x, y, rotation, font and both multipliers; of B x, y, rotation, narrow, wide and height; of b x
+   and y; all of LO, LW, LE, LS, X and GW; of R x, and y where there is a comma. Rotation is 0 to 3, font 1 to 5, horizontal multiplier 1 to 6 or 8, vertical 1 to 9,
+   the width of GW at least 1, as the file says them. What nothing is read from is not looked at. Within a line 17 and 18 come after the field count (of GW after 12)
+   and before all else, first field first.
+
+   A file that the profile accepts is accepted by laddertick_step with the same labels and as many elements pending at the end, and a refusal other than 17 and 18 is
+   laddertick_step's own, number and place. So a host that wants steps checks the file first and then walks it plainly: that walk is the strict reading, and no step
+   of it is slower for the check. */
+typedef struct laddertick_checked {
+    uint32_t number; /* 0: accepted, and every other field is 0. Else the number of the refusal */
+    uint32_t field;  /* of 17 and 18 the field, counted from 1 (of R everything behind the first comma is field 2); else 0 */
+    uint32_t held;   /* of 17 and 18 what it held, as below; else 0 */
+    size_t place;    /* of the refusal */
+} laddertick_checked;
+
+/* What a field held. */
+enum {
+    LADDERTICK_HELD_EMPTY = 1,     /* 17: nothing but blanks */
+    LADDERTICK_HELD_NO_NUMBER = 2, /* 17: something else than an optional sign and digits */
+    LADDERTICK_HELD_BEYOND = 3,    /* 17: a number outside 32 bits */
+    LADDERTICK_HELD_OUTSIDE = 4    /* 18: a value outside the profile */
+};
+
+/* The profile's verdict on a whole file. Refusals: all but 15 and 16. */
+laddertick_checked laddertick_check(const uint8_t *input, size_t input_len);
+
+/* As laddertick_list, under the profile. Refusals: all but 16. */
+laddertick_written laddertick_strict_list(const uint8_t *input, size_t input_len, uint8_t *out, size_t out_len);
 
 #ifdef __cplusplus
 }

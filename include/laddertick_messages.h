@@ -27,6 +27,8 @@
     X(14, "more than 16,777,216 bytes") \
     X(15, "the buffer is too short") \
     X(16, "a walk whose place is past the end, or whose pending count is above its place") \
+    X(17, "a field holds no value, which the well-site profile asks for") \
+    X(18, "a value outside the well-site profile") \
     X(19, "a size outside 32 bits: of a diagonal, a box or a text")
 /* clang-format on */
 

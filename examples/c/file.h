@@ -1,4 +1,4 @@
-/* What both examples need: a file in memory, text that is safe on a terminal, and a refusal in words. Exit status: 1 a refused file, 2 anything else that goes
+/* What the examples need: a file in memory, text that is safe on a terminal, and a refusal in words. Exit status: 1 a refused file, 2 anything else that goes
    wrong. */
 #ifndef FILE_H
 #define FILE_H
@@ -131,7 +131,7 @@ static int refuse(const char *name, bytes input, unsigned number, size_t place)
 {
     put_name(name);
     fprintf(stderr, "refused (%u): %s\n", number, MESSAGES[number]);
-    if (number <= LADDERTICK_OUT_OF_RANGE || number == LADDERTICK_SIZE_OUT_OF_RANGE) {
+    if (number < LADDERTICK_INPUT_TOO_LONG || number > LADDERTICK_STATE_OUTSIDE) {
         size_t line = 1, end = place;
         for (size_t i = 0; i < place; i++)
             line += input.at[i] == '\n';

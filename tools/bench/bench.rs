@@ -30,8 +30,9 @@ const WALK: Function = Function { name: "walk", call: |input, _| library::walk(i
 const PARSE: Function = Function { name: "parse", call: |input, _| oracle::parse(input).unwrap_or(0) };
 const NORMALISE: Function = Function { name: "normalise", call: |input, out| library::normalise(input, out) };
 const FORMAT: Function = Function { name: "format_epl", call: |input, _| oracle::normalised(input).len() };
+const CHECK: Function = Function { name: "check", call: |input, _| library::check(input) };
 const COPY: Function = Function { name: "copy", call: |input, out| copy(input, out) };
-const FUNCTIONS: [&Function; 5] = [&WALK, &PARSE, &NORMALISE, &FORMAT, &COPY];
+const FUNCTIONS: [&Function; 6] = [&WALK, &PARSE, &NORMALISE, &FORMAT, &CHECK, &COPY];
 
 fn copy(input: &[u8], out: &mut [u8]) -> usize {
     out[..input.len()].copy_from_slice(input);
@@ -224,6 +225,16 @@ fn times() {
         println!("| {} | {normalise:.3} | {copy:.3} | {:.1} |", size_name(size), normalise / copy);
         beside = beside.max(normalise / copy);
     }
+    println!("\nThe well-site profile's check beside the walk, nanoseconds a byte\n");
+    println!("| input | check | walk | times the walk |");
+    println!("|---|---|---|---|");
+    let mut strict: f64 = 0.0;
+    for kind in KINDS {
+        let input = made(kind, SIZES[0]);
+        let [check, walk] = times_of(1, [Job::new(&CHECK, &input), Job::new(&WALK, &input)]);
+        println!("| {} | {check:.3} | {walk:.3} | {:.1} |", kind.name, check / walk);
+        strict = strict.max(check / walk);
+    }
     let growths = grown();
     println!("\nTargets\n");
     let least = |rows: &[(f64, f64)]| rows.iter().map(|(mine, theirs)| theirs / mine).fold(f64::MAX, f64::min);
@@ -234,6 +245,7 @@ fn times() {
     target("normalise on graphics, times as fast as format_epl, at least 2", least(&texts[at]), |r| r >= 2.0);
     target("normalise on every input, times as fast as format_epl, at least 2", texts.iter().map(|rows| least(rows)).fold(f64::MAX, f64::min), |r| r >= 2.0);
     target("normalise on graphics, times the time of a copy, at most 3", beside, |r| r <= 3.0);
+    target("check on every input, times the time of the walk, at most 2.5", strict, |r| r <= 2.5);
     for (reading, most) in READINGS.iter().zip(growths) {
         target(&format!("16 MiB, times the time of 1 MiB, {reading}, at most 18"), most, |r| r <= 18.0);
     }

@@ -23,3 +23,9 @@ pub fn normalise(input: &[u8], out: &mut [u8]) -> usize {
     assert_eq!(written.number, 0);
     written.place
 }
+
+/// The well-site profile's verdict, a number and a place.
+pub fn check(input: &[u8]) -> usize {
+    let checked = raw::check(input);
+    checked.number as usize + checked.place
+}

@@ -2,6 +2,7 @@
 
 use crate::raw::{self, Written};
 use crate::steps;
+use crate::strict;
 use oracle::{fields, Answer};
 
 /// A function that writes.
@@ -57,22 +58,29 @@ impl Lent {
 
 /// Holds the library's answers against the Rust's: the listing's, the walk's and the normalised text's. The fields of frames that the Rust has not are left
 /// out before its listing is compared, and are then held to the definition. The normalised text of an accepted input is listed alike, and normalising it
-/// again changes nothing. An error says in words what is wrong.
-pub fn compare(lent: &mut Lent, input: &[u8], rust: &Answer) -> Result<(), String> {
+/// again changes nothing. The strict reading is held beside the plain one. An error says in words what is wrong; else the number of the profile's verdict is given.
+pub fn compare(lent: &mut Lent, input: &[u8], rust: &Answer) -> Result<u32, String> {
     as_the_rust(lent, input, rust)?;
     let expected = &fields::told(input, rust);
-    listed(lent, input, expected)?;
+    listed(lent, raw::list, input, expected)?;
+    let checked = strict::checked(lent.place(input), expected).map_err(|wrong| format!("checking, {wrong}"))?;
+    if matches!(checked.number, 17 | 18) {
+        refused(lent, raw::strict_list, input, checked.number as u8, checked.place).map_err(|wrong| format!("listing strictly, {wrong}"))?;
+    } else {
+        listed(lent, raw::strict_list, input, expected).map_err(|wrong| format!("listing strictly, {wrong}"))?;
+    }
     steps::walked(lent.place(input), expected).map_err(|wrong| format!("walking, {wrong}"))?;
     if input.len() > oracle::LIMIT {
-        return refused(lent, raw::normalise, input, 14, 0);
+        refused(lent, raw::normalise, input, 14, 0)?;
+        return Ok(checked.number);
     }
     let text = oracle::normalised(input);
     written(lent, raw::normalise, input, &text).map_err(|wrong| format!("normalising, {wrong}"))?;
     if text.len() <= oracle::LIMIT && matches!(expected, Answer::Labels(_)) {
-        listed(lent, &text, expected).map_err(|wrong| format!("the normalised text, {wrong}"))?;
+        listed(lent, raw::list, &text, expected).map_err(|wrong| format!("the normalised text, {wrong}"))?;
         written(lent, raw::normalise, &text, &text).map_err(|wrong| format!("normalising again, {wrong}"))?;
     }
-    Ok(())
+    Ok(checked.number)
 }
 
 /// The listing is the Rust's but for the fields that the Rust has not.
@@ -89,10 +97,10 @@ fn as_the_rust(lent: &mut Lent, input: &[u8], rust: &Answer) -> Result<(), Strin
     Err(format!("{got:?}, and not as the Rust:\n{ours}"))
 }
 
-fn listed(lent: &mut Lent, input: &[u8], expected: &Answer) -> Result<(), String> {
+fn listed(lent: &mut Lent, function: Function, input: &[u8], expected: &Answer) -> Result<(), String> {
     match expected {
-        Answer::Labels(_) => written(lent, raw::list, input, expected.lines().as_bytes()),
-        Answer::Refused(number, place) => refused(lent, raw::list, input, *number, *place),
+        Answer::Labels(_) => written(lent, function, input, expected.lines().as_bytes()),
+        Answer::Refused(number, place) => refused(lent, function, input, *number, *place),
         Answer::Panic => unreachable!("01 answers every input"),
     }
 }

@@ -6,6 +6,7 @@ mod compare;
 mod raw;
 mod short;
 mod steps;
+mod strict;
 
 use compare::{compare, Lent};
 use inputs::Maker;
@@ -42,6 +43,8 @@ fn main() {
     eprintln!("with print lines of two counts: {}", count(&run.two_counts));
     eprintln!("with fields that the Rust has not: {}", count(&run.fields));
     eprintln!("with elements pending at the end: {}; of these with labels before them: {}", count(&run.pending[0]), count(&run.pending[1]));
+    let by_profile = [0, 17, 18].map(|n| count(&run.checked[n]));
+    eprintln!("by the well-site profile: accepted {}, refused 17 {}, 18 {}, the others as plainly", by_profile[0], by_profile[1], by_profile[2]);
     let (cases, differences, accepted) = (count(&run.cases), count(&run.differences), count(&run.accepted));
     let refused: usize = run.refused.iter().map(count).sum();
     let [position, size, kind, maxicode] = [0, 1, 2, 3].map(|i| count(&run.panics[i]));
@@ -71,6 +74,8 @@ struct Run {
     pending: [AtomicUsize; 2],
     /// By 01's number.
     refused: [AtomicUsize; 20],
+    /// By the number of the profile's verdict, 0 where it accepts.
+    checked: [AtomicUsize; 20],
     /// By cause: 13; 19; 7, 8 or 9; MaxiCode.
     panics: [AtomicUsize; 4],
 }
@@ -117,7 +122,11 @@ impl Run {
             self.panics[kind.unwrap()].fetch_add(1, Relaxed);
         }
         self.cases.fetch_add(1, Relaxed);
-        if let Err(wrong) = compare(lent, input, &expected) {
+        let compared = compare(lent, input, &expected);
+        if let Ok(number) = compared {
+            self.checked[number as usize].fetch_add(1, Relaxed);
+        }
+        if let Err(wrong) = compared {
             if self.differences.fetch_add(1, Relaxed) < SHOWN {
                 let (input, wrong) = cut_down(lent, input, wrong);
                 let expected = fields::told(&input, &masked::answer(&input).0).lines();
@@ -139,7 +148,7 @@ fn cut_down(lent: &mut Lent, input: &[u8], wrong: String) -> (Vec<u8>, String) {
             let shorter = [&input[..at], &input[at + part..]].concat();
             match compare(lent, &shorter, &masked::answer(&shorter).0) {
                 Err(now) => (input, wrong) = (shorter, now),
-                Ok(()) => at += part,
+                Ok(_) => at += part,
             }
         }
         part /= 2;

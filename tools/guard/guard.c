@@ -97,10 +97,13 @@ static uint8_t *out;
 static laddertick_walk walk;
 static laddertick_answer answer;
 static laddertick_written written;
+static laddertick_checked checked;
 
 static void do_step(void) { answer = laddertick_step(input, input_len, walk); }
 static void do_data(void) { written = laddertick_data(input, input_len, start, len, out, out_len); }
 static void do_list(void) { written = laddertick_list(input, input_len, out, out_len); }
+static void do_strict_list(void) { written = laddertick_strict_list(input, input_len, out, out_len); }
+static void do_check(void) { checked = laddertick_check(input, input_len); }
 static void do_normalise(void) { written = laddertick_normalise(input, input_len, out, out_len); }
 
 static void call(const char *name, void (*function)(void))
@@ -180,17 +183,16 @@ static void lend_null(const char *name, void (*function)(void), laddertick_writt
         wrong("NULL of length 0 is not answered as an empty buffer");
 }
 
-/* Room to spare, just enough, one byte less, none: 15 exactly where it is too short, with the length needed. */
-static void writes(const char *name, void (*function)(void), int last)
+/* Room to spare, just enough, one byte less, none: 15 exactly where it is too short, with the length needed. Gives what was answered with room to spare. */
+static laddertick_written writes(const char *name, void (*function)(void), int last)
 {
     lend(name, function, spare(), last);
     laddertick_written whole = written;
     if (whole.number == LADDERTICK_OUTPUT_TOO_SHORT)
         wrong("15 with space left");
     lend_null(name, function, whole);
-    written = whole;
     if (whole.number != 0)
-        return;
+        return whole;
     size_t need = whole.place;
     lend(name, function, need, last);
     if (written.number != 0 || written.place != need)
@@ -200,6 +202,7 @@ static void writes(const char *name, void (*function)(void), int last)
         if (written.number != LADDERTICK_OUTPUT_TOO_SHORT || written.place != need)
             wrong("no 15, or another length than is needed");
     }
+    return whole;
 }
 
 static int same(laddertick_walk a, laddertick_walk b)
@@ -229,6 +232,22 @@ static uint64_t walks(int last)
         walk = answer.next;
     } while (answer.kind != LADDERTICK_END && answer.kind != LADDERTICK_REFUSED);
     return sum;
+}
+
+/* The profile's verdict and the listing under it, behind the plain listing `plain`: either the file is refused as 17 or 18, with its field, or all is as plain. */
+static uint64_t checks(int last, laddertick_written plain)
+{
+    call("laddertick_check", do_check);
+    calls++;
+    int own = checked.number == LADDERTICK_NO_VALUE || checked.number == LADDERTICK_OUTSIDE_PROFILE;
+    if (own != (checked.field != 0) || own != (checked.held != 0) || checked.held > LADDERTICK_HELD_OUTSIDE)
+        wrong("a field is told where there is none, or none where there is one");
+    if (own ? checked.place >= input_len : checked.number != plain.number || checked.place != (plain.number == 0 ? 0 : plain.place))
+        wrong("neither the profile's refusal nor the plain answer");
+    laddertick_written w = writes("laddertick_strict_list", do_strict_list, last);
+    if (w.number != (own ? checked.number : plain.number) || w.place != (own ? checked.place : plain.place))
+        wrong("not as laddertick_check and laddertick_list say");
+    return checked.number + 31 * (checked.place + 31 * (checked.field + 31 * (uint64_t)checked.held));
 }
 
 static void states(void)
@@ -264,10 +283,10 @@ static void hold(const uint8_t *bytes, size_t n)
         input = placed(inputs, n, last);
         input_len = n;
         sums[last] = walks(last);
-        writes("laddertick_list", do_list, last);
-        sums[last] = sums[last] * 31 + written.number + written.place;
-        writes("laddertick_normalise", do_normalise, last);
-        sums[last] = sums[last] * 31 + written.number + written.place;
+        laddertick_written listing = writes("laddertick_list", do_list, last), text = writes("laddertick_normalise", do_normalise, last);
+        sums[last] = sums[last] * 31 + listing.number + listing.place;
+        sums[last] = sums[last] * 31 + text.number + text.place;
+        sums[last] = sums[last] * 31 + checks(last, listing);
     }
     doing = "both placements";
     if (sums[0] != sums[1])
@@ -281,7 +300,7 @@ static void hold_null(void)
     input = NULL;
     input_len = 0;
     walks(0);
-    writes("laddertick_list", do_list, 0);
+    checks(0, writes("laddertick_list", do_list, 0));
     writes("laddertick_normalise", do_normalise, 0);
     states();
 }

@@ -90,6 +90,13 @@ static void written(const char *what, laddertick_written got, laddertick_written
 #undef F
 }
 
+static void checked(const char *what, laddertick_checked got, laddertick_checked due)
+{
+#define F(field) number(what, #field, (double)got.field, (double)due.field);
+    FIELDS_laddertick_checked(F)
+#undef F
+}
+
 static void bytes(const char *what, const void *got, const void *due, size_t n)
 {
     if (memcmp(got, due, n) != 0) {
@@ -129,6 +136,11 @@ static void writes(void)
     written("list into 71 bytes", laddertick_list(input, input_len, out, 71), (laddertick_written){15, 72});
     written("list into 72 bytes", laddertick_list(input, input_len, out, 72), (laddertick_written){0, 72});
     bytes("list", out, LISTING, 72);
+    written("strict_list into 71 bytes", laddertick_strict_list(input, input_len, out, 71), (laddertick_written){15, 72});
+    written("strict_list into 72 bytes", laddertick_strict_list(input, input_len, out, 72), (laddertick_written){0, 72});
+    bytes("strict_list", out, LISTING, 72);
+    written("strict_list of no value", laddertick_strict_list((const uint8_t *)"N\nR1,\n", 6, out, 72), (laddertick_written){17, 2});
+    written("strict_list outside", laddertick_strict_list((const uint8_t *)"N\nGW1,2,0,3,\n", 13, out, 72), (laddertick_written){18, 2});
     input = (const uint8_t *)" N \r\nab\377def";
     input_len = 11;
     written("normalise into 8 bytes", laddertick_normalise(input, input_len, out, 8), (laddertick_written){15, 9});
@@ -139,6 +151,27 @@ static void writes(void)
     bytes("data", out, "b\357\277\275de", 6);
 }
 
+/* The profile: a file of two lines, the second as given. */
+static void checks(void)
+{
+    static const struct {
+        const char *line;
+        laddertick_checked due;
+    } CHECKS[] = {
+        {"A1,2,3,4,5,6,N,\"x\"\n", {.number = 0}},
+        {"A1,2,3,4,,6,N,\"x\"\n", {.number = 17, .field = 5, .held = 1, .place = 10}},
+        {"A1,2,3,4,5,6O,N,\"x\"\n", {.number = 17, .field = 6, .held = 2, .place = 10}},
+        {"A1,99999999999,3,4,5,6,N,\"x\"\n", {.number = 17, .field = 2, .held = 3, .place = 10}},
+        {"A1,2,4,4,5,6,N,\"x\"\n", {.number = 18, .field = 3, .held = 4, .place = 10}},
+        {"B0,0,0,1D,2,2,9,B,\"x\"\n", {.number = 7, .place = 10}},
+    };
+    char text[128];
+    for (size_t i = 0; i < sizeof CHECKS / sizeof CHECKS[0]; i++) {
+        input_len = (size_t)snprintf(text, sizeof text, "LO1,1,1,1\n%s", CHECKS[i].line);
+        checked(CHECKS[i].line, laddertick_check((const uint8_t *)text, input_len), CHECKS[i].due);
+    }
+}
+
 /* NULL of length 0, for an input and for a buffer: an empty file, and no room. */
 static void null(void)
 {
@@ -147,10 +180,12 @@ static void null(void)
     answer("NULL, pending", laddertick_step(NULL, 0, (laddertick_walk){3, 4, 5, 6}), (laddertick_answer){.kind = 255, .number = 16, .place = 6, .next = {3, 4, 5, 6}});
     for (int k = 0; k < 2; k++) {
         uint8_t *to = k == 0 ? NULL : out;
+        written("strict_list NULL", laddertick_strict_list(NULL, 0, to, (size_t)k), (laddertick_written){0, 0});
         written("list NULL", laddertick_list(NULL, 0, to, (size_t)k), (laddertick_written){0, 0});
         written("normalise NULL", laddertick_normalise(NULL, 0, to, (size_t)k), (laddertick_written){0, 0});
         written("data of NULL", laddertick_data(NULL, 0, 7, 8, to, (size_t)k), (laddertick_written){0, 0});
     }
+    checked("check NULL", laddertick_check(NULL, 0), (laddertick_checked){.number = 0});
     input = (const uint8_t *)"LO5,6,30,4";
     written("list into NULL", laddertick_list(input, 10, NULL, 0), (laddertick_written){15, 11});
     written("normalise into NULL", laddertick_normalise(input, 10, NULL, 0), (laddertick_written){15, 11});
@@ -162,6 +197,7 @@ int main(void)
 {
     steps();
     writes();
+    checks();
     null();
     printf("layout: %zu answers of a step, every field of each: %s\n", looked_at, wrong ? "some are wrong" : "all as 01 says");
     return wrong;

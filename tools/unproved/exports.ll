@@ -48,6 +48,24 @@ define %written @laddertick_normalise(ptr %input, i64 %len, ptr %out, i64 %out_l
   ret %written %r
 }
 
+define void @laddertick_check(ptr noalias sret([24 x i8]) align 8 %to, ptr %input, i64 %len) {
+  %s = alloca %slice, align 8
+  call void @slice_of(ptr %s, ptr %input, i64 %len)
+  call void @inner_check(ptr %to, ptr %s)
+  ret void
+}
+
+define %written @laddertick_strict_list(ptr %input, i64 %len, ptr %out, i64 %out_len) {
+  %s = alloca %slice, align 8
+  %o = alloca %slice, align 8
+  %w = alloca %written, align 8
+  call void @slice_of(ptr %s, ptr %input, i64 %len)
+  call void @slice_of(ptr %o, ptr %out, i64 %out_len)
+  call void @inner_strict_list(ptr %w, ptr %s, ptr %o)
+  %r = load %written, ptr %w, align 8
+  ret %written %r
+}
+
 define internal void @slice_of(ptr %s, ptr %bytes, i64 %len) alwaysinline {
   store ptr %bytes, ptr %s, align 8
   %l = getelementptr i8, ptr %s, i64 8

@@ -17,12 +17,14 @@
 //! The work is done by a static library in which every function is proved to meet its contract, to return, and to touch only what it was lent
 //! (docs/CONTRACTS.md of the repository). This crate is the thin safe side of it: it allocates, the library does not.
 
+mod check;
 mod element;
 mod raw;
 mod refused;
 mod walk;
 mod write;
 
+pub use check::{check, Field, Held, Unfit};
 pub use element::{BarMode, Bars, Colour, Element, Kind, QrLevel, Scale};
 pub use refused::Refused;
 pub use walk::{labels, steps, Label, Labels, Print, Step, Steps, Unprinted};
@@ -40,6 +42,14 @@ pub fn normalise(input: &[u8]) -> Result<Vec<u8>, Refused> {
 /// The labels of a file as frames, one a line in hexadecimal, and behind them frame fe if elements are pending at the end; or the refusal of the earliest
 /// refused line.
 pub fn list(input: &[u8]) -> Result<String, Refused> {
-    let bytes = write(0, |out| raw::list(input, out))?;
-    Ok(String::from_utf8(bytes).expect("a listing is hexadecimal digits and LF"))
+    listing(|out| raw::list(input, out))
+}
+
+/// As [`list`], under the well-site profile ([`check`]): the same listing, or the refusal of the earliest line that either reading refuses.
+pub fn strict_list(input: &[u8]) -> Result<String, Refused> {
+    listing(|out| raw::strict_list(input, out))
+}
+
+fn listing(of: impl Fn(&mut [u8]) -> raw::Written) -> Result<String, Refused> {
+    Ok(String::from_utf8(write(0, of)?).expect("a listing is hexadecimal digits and LF"))
 }

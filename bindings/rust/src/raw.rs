@@ -69,12 +69,24 @@ pub struct Written {
     pub place: usize,
 }
 
+/// Number 0: the file is accepted by the well-site profile, and every field is 0. Else a refusal; of 17 and 18 also the field, from 1, and what it held.
+#[repr(C)]
+#[derive(Clone, Copy, Debug, Default, PartialEq, Eq)]
+pub struct Checked {
+    pub number: u32,
+    pub field: u32,
+    pub held: u32,
+    pub place: usize,
+}
+
 extern "C" {
     fn laddertick_start() -> Walk;
     fn laddertick_step(input: *const u8, input_len: usize, walk: Walk) -> Answer;
     fn laddertick_data(input: *const u8, input_len: usize, start: usize, len: usize, out: *mut u8, out_len: usize) -> Written;
     fn laddertick_list(input: *const u8, input_len: usize, out: *mut u8, out_len: usize) -> Written;
     fn laddertick_normalise(input: *const u8, input_len: usize, out: *mut u8, out_len: usize) -> Written;
+    fn laddertick_check(input: *const u8, input_len: usize) -> Checked;
+    fn laddertick_strict_list(input: *const u8, input_len: usize, out: *mut u8, out_len: usize) -> Written;
 }
 
 // Safe, all of them: the pointers and lengths are those of slices, which nobody writes meanwhile and which, one of them being `&mut`, do not overlap. An empty
@@ -98,4 +110,12 @@ pub fn list(input: &[u8], out: &mut [u8]) -> Written {
 
 pub fn normalise(input: &[u8], out: &mut [u8]) -> Written {
     unsafe { laddertick_normalise(input.as_ptr(), input.len(), out.as_mut_ptr(), out.len()) }
+}
+
+pub fn check(input: &[u8]) -> Checked {
+    unsafe { laddertick_check(input.as_ptr(), input.len()) }
+}
+
+pub fn strict_list(input: &[u8], out: &mut [u8]) -> Written {
+    unsafe { laddertick_strict_list(input.as_ptr(), input.len(), out.as_mut_ptr(), out.len()) }
 }

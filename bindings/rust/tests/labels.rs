@@ -1,6 +1,8 @@
 //! Answers that the scope document gives, through the safe crate.
 
-use laddertick::{labels, list, normalise, steps, BarMode, Bars, Colour, Element, Kind, Label, QrLevel, Refused, Scale, Step, Unprinted, LONGEST};
+use laddertick::{
+    check, labels, list, normalise, steps, strict_list, BarMode, Bars, Colour, Element, Field, Held, Kind, Label, QrLevel, Refused, Scale, Step, Unfit, Unprinted, LONGEST,
+};
 
 /// The one element of a file with one label, and nothing behind it.
 fn one(file: &[u8]) -> Element<'_> {
@@ -130,18 +132,18 @@ fn refusals_say_number_place_and_meaning() {
     assert!(walk.next().is_none());
 }
 
-/// The words are those that the C examples print; examples/c/test holds them against the same file.
+/// The words are those that the C examples print; examples/c/test holds them against the same files.
 #[test]
 fn words_of_c() {
-    let printed = include_str!("../../../samples/expected/refusals.err");
+    let printed = concat!(include_str!("../../../samples/expected/refusals.err"), include_str!("../../../samples/expected/objections.err"));
     let meaning = |number| Refused { number, place: 0 }.meaning();
-    for number in (1..=14).chain([19]) {
+    for number in (1..=14).chain(17..=19) {
         let line = format!("laddertick: -: refused ({number}): {}", meaning(number));
         assert!(printed.lines().any(|said| said == line), "{line}");
     }
     assert_eq!(meaning(15), "the buffer is too short");
     assert_eq!(meaning(16), "a walk whose place is past the end, or whose pending count is above its place");
-    assert_eq!(Refused { number: 17, place: 0 }.meaning(), "unknown");
+    assert_eq!(meaning(20), "unknown");
 }
 
 #[test]
@@ -159,4 +161,27 @@ fn at_the_limit() {
     file.push(b'\n');
     assert_eq!(normalise(&file).unwrap_err(), Refused { number: 14, place: 0 });
     assert_eq!(refused(&file), (14, 0));
+}
+
+#[test]
+fn the_well_site_profile() {
+    let file = b"R10,20\nLO5,6,30,4\nP1\nLO1,2,3,4\n";
+    assert_eq!(check(file), Ok(()));
+    assert_eq!(strict_list(file), list(file));
+    let unfit = |number, place, field| Err(Unfit { refused: Refused { number, place }, field });
+    let at = |number, held| Some(Field { number, held });
+    let cases: [(&[u8], _); 6] = [
+        (b"N\nA1,2,0,1,,1,N,\"x\"\nP", unfit(17, 2, at(5, Held::Empty))),
+        (b"A1,2,0,1,12O,1,N,\"x\"\nP", unfit(17, 0, at(5, Held::NoNumber))),
+        (b"N\n LO1,99999999999,3,4\nP", unfit(17, 2, at(2, Held::Beyond))),
+        (b"A1,2,0,1,7,1,N,\"x\"\nP", unfit(18, 0, at(5, Held::Outside))),
+        (b"N\nB0,0,0,1D,2,2,9,B,\"x\"\nP", unfit(7, 2, None)),
+        (b"LO1,2\nR1,\n", unfit(4, 0, None)),
+    ];
+    for (file, due) in cases {
+        assert_eq!(check(file), due, "{}", file.escape_ascii());
+        assert_eq!(strict_list(file).unwrap_err(), due.unwrap_err().refused);
+    }
+    let said = check(b"N\nR1,\n").unwrap_err().to_string();
+    assert_eq!(said, "refused (17): a field holds no value, which the well-site profile asks for, at offset 2 (from 0), field 2: empty");
 }

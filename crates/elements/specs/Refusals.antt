@@ -6,7 +6,8 @@ use Rattle.elements.specs.declared.refusal.Refusal.the-variants.{LineFie
 use Rattle.elements.specs.declared.refusal.Refusal.the-variants.{BarcodeType, Barcode2dType, QrData}
 use Rattle.elements.specs.declared.refusal.Refusal.the-variants.{GraphicFields, GraphicNegative, GraphicTruncated}
 use Rattle.elements.specs.declared.refusal.Refusal.the-variants.{OutOfRange, InputTooLong, OutputTooShort}
-use Rattle.elements.specs.declared.refusal.Refusal.the-variants.{StateOutside, SizeOutside}
+use Rattle.elements.specs.declared.refusal.Refusal.the-variants.{StateOutside, NoValue, OutsideProfile}
+use Rattle.elements.specs.declared.refusal.Refusal.the-variants.{SizeOutside}
 
 abbrev pub numberOf : Refusal → ℕ
 -- 1 `A`, 2 `B`, 3 `b`, 4 `LO`/`LW`/`LE`, 5 `LS`, 6 `X` with too few fields
@@ -31,5 +32,8 @@ numberOf OutOfRange = 13
 numberOf InputTooLong = 14
 numberOf OutputTooShort = 15
 numberOf StateOutside = 16
+-- 17 a field with no value, 18 a value outside the well-site profile: by the strict reading alone
+numberOf NoValue = 17
+numberOf OutsideProfile = 18
 -- 19 a difference, its absolute value or a font product outside 32 bits
 numberOf SizeOutside = 19

@@ -30,6 +30,10 @@ pub enum Refusal {
     StateOutside,
     // The author of the label: a difference, its absolute value or a font product outside 32 bits.
     SizeOutside,
+    // The author of the label, by the well-site profile alone: a field with no value, a value outside the profile. Last:
+    // with them before SizeOutside a step of the static library takes ten instructions more.
+    NoValue,
+    OutsideProfile,
 }
 
 impl Refusal {
@@ -55,6 +59,8 @@ impl Refusal {
             Refusal::OutputTooShort => 15,
             Refusal::StateOutside => 16,
             Refusal::SizeOutside => 19,
+            Refusal::NoValue => 17,
+            Refusal::OutsideProfile => 18,
         }
     }
 }

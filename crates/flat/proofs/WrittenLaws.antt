@@ -2,7 +2,7 @@
 use mathlib.Core.Path.{_≡_, refl}
 use Prim.Native.Nat.{ℕ}
 use Rattle.elements.specs.declared.refusal.Refusal.{Refusal}
-use Rattle.elements.specs.declared.refusal.Refusal.the-variants.{TextFields, BarcodeFields, Barcode2dFields, LineFields, DiagonalFields, BoxFields, BarcodeType, Barcode2dType, QrData, GraphicFields, GraphicNegative, GraphicTruncated, OutOfRange, InputTooLong, OutputTooShort, StateOutside, SizeOutside}
+use Rattle.elements.specs.declared.refusal.Refusal.the-variants.{TextFields, BarcodeFields, Barcode2dFields, LineFields, DiagonalFields, BoxFields, BarcodeType, Barcode2dType, QrData, GraphicFields, GraphicNegative, GraphicTruncated, OutOfRange, InputTooLong, OutputTooShort, StateOutside, NoValue, OutsideProfile, SizeOutside}
 use Rattle.elements.specs.Refusals.{numberOf}
 use Rattle.elements.specs.Given.{refused}
 use Rattle.flat.specs.Written.{givenFlat}
@@ -24,4 +24,6 @@ flat-refusal OutOfRange p = refl
 flat-refusal InputTooLong p = refl
 flat-refusal OutputTooShort p = refl
 flat-refusal StateOutside p = refl
+flat-refusal NoValue p = refl
+flat-refusal OutsideProfile p = refl
 flat-refusal SizeOutside p = refl

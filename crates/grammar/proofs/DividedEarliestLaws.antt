@@ -30,7 +30,7 @@ use Rattle.grammar.proofs.FaultsLaws.{first-fault, fault-first, fault-b
 
 module _ (F : Type 0) (frame : List ℕ → LabelElement → F) where
   -- a unit over which the run goes on: its numbers fit, and the reference is the one after it
-  went : (r r′ : LabelPosition) (p p′ : List F) (ls : List (Label F EplPrint)) (u : EplUnit) (rest : List ℕ) → Stands u rest → effect epl F frame r p u (acts r u) ≡ goes ls r′ p′ → AllFit (numbersOf r u) × (r′ ≡ refAfter r u)
+  pub went : (r r′ : LabelPosition) (p p′ : List F) (ls : List (Label F EplPrint)) (u : EplUnit) (rest : List ℕ) → Stands u rest → effect epl F frame r p u (acts r u) ≡ goes ls r′ p′ → AllFit (numbersOf r u) × (r′ ≡ refAfter r u)
   went r r′ p p′ ls u rest st e = by (acts-unit r u rest st)
     where
       by : ActsAs r u → AllFit (numbersOf r u) × (r′ ≡ refAfter r u)

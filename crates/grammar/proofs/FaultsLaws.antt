@@ -36,18 +36,18 @@ ends-by : (q : List ℕ) → ((b : ℕ) (r : List ℕ) → q ≡ b ∷ r → not
 ends-by [] h = tt
 ends-by (b ∷ r) h = eqb-true b 10 (not-false (eqb b 10) (h b r refl))
 
-line-of : (s : List ℕ) → FirstLine s (front notLf s)
+pub line-of : (s : List ℕ) → FirstLine s (front notLf s)
 line-of s = record { rest = dropWhile notLf s; cut = sym (front-drop notLf s); one-line = front-all notLf s; ends = ends-by (dropWhile notLf s) (drop-stops notLf s) }
 
 -- the first line is cut in one way
-front-is : {s t : List ℕ} → FirstLine s t → front notLf s ≡ t
+pub front-is : {s t : List ℕ} → FirstLine s t → front notLf s ≡ t
 front-is {s} {t} l = ap (front notLf) (l .cut) ∙ by (l .rest) (l .ends)
   where
     by : (q : List ℕ) → Ends q → front notLf (t ++ q) ≡ t
     by [] e = ap (front notLf) (append-nil t) ∙ front-whole notLf t (l .one-line)
     by (b ∷ q) e = ap (λ (x : ℕ). front notLf (t ++ x ∷ q)) e ∙ front-stop notLf t (l .one-line) 10 q refl
 
-opens-first : {s t : List ℕ} → FirstLine s t → opensGw s ≡ opensGw t
+pub opens-first : {s t : List ℕ} → FirstLine s t → opensGw s ≡ opensGw t
 opens-first {s} {t} l = ap opensGw (l .cut) ∙ by (l .rest) (l .ends)
   where
     by : (q : List ℕ) → Ends q → opensGw (t ++ q) ≡ opensGw t
@@ -169,7 +169,7 @@ measured-past : (m : GwNumbers) (start left w l : ℕ) → m .«width_bytes» �
 unfolding measured
 measured-past m start left w l e f h = simp (e, f, le-ltb w 0 zero-le, le-ltb l 0 zero-le, lt-ltb left (w * l) h)
 
-headed-span : {s : List ℕ} {h : Header} {q : List ℕ} (k : Headed s h q) → gwSpan s ≡ measured (numbers h) (length (k .bs ++ gw h [])) (length q)
+pub headed-span : {s : List ℕ} {h : Header} {q : List ℕ} (k : Headed s h q) → gwSpan s ≡ measured (numbers h) (length (k .bs ++ gw h [])) (length q)
 headed-span {s} {h} {q} k =
     ap gwSpan (k .cut)
     ∙ gw-span-is (k .bs) h q (record { blanks = k .blanks; in-x = k .in-x; in-y = k .in-y; in-width = k .in-width; in-lines = k .in-lines })

@@ -47,7 +47,7 @@ closed-is t h = sym (front-drop inField t) ∙ ap (λ (x : List ℕ). front inFi
     by (b ∷ s) h = ap (λ (x : ℕ). x ∷ s) (eqb-true b 44 h)
 
 -- ---- what stands before a payload
-block-append : (bs : List ℕ) (h : Header) (p rest : List ℕ) → (bs ++ gw h p) ++ rest ≡ bs ++ gw h (p ++ rest)
+pub block-append : (bs : List ℕ) (h : Header) (p rest : List ℕ) → (bs ++ gw h p) ++ rest ≡ bs ++ gw h (p ++ rest)
 block-append bs h p rest = simp append-assoc
 
 pub block-length : (bs : List ℕ) (h : Header) (p : List ℕ) → length (bs ++ gw h p) ≡ length (bs ++ gw h []) + length p
@@ -77,7 +77,7 @@ module _ (bs : List ℕ) (h : Header) (q : List ℕ) (w : Before bs h) where
   unfolding opensGw
   opens-gw = ap (λ (x : List ℕ). same (take 2 x) (71 ∷ 87 ∷ [])) drop-blanks
 
-  header-is : headerOf (bs ++ gw h q) ≡ drop 2 (gw h q)
+  pub header-is : headerOf (bs ++ gw h q) ≡ drop 2 (gw h q)
   header-is = ap (drop 2) drop-blanks
 
   four-is : fourClosed (drop 2 (gw h q)) ≡ true

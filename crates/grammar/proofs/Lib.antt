@@ -11,6 +11,8 @@ pub mod FoundLaws
 -- what a reader of one unit answers for a line, for a block
 pub mod TurnLineLaws
 pub mod TurnBlockLaws
+-- how many bytes it has
+pub mod SizeLaws
 -- the reader and the grammar: types, each command, a line
 pub mod Barcode2dTypeLaws
 pub mod WellFormedCommandLaws

@@ -7,6 +7,8 @@ pub mod Units
 pub mod WellFormed
 -- what stands first in a string
 pub mod Found
+-- the bytes of what stands first
+pub mod Size
 -- EPL as a language of units
 pub mod Epl
 -- 01, "format.rs": what becomes of units, apart from how it is written; normalised text

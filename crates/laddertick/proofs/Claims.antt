@@ -3,14 +3,14 @@ use mathlib.Core.Path.{_≡_, refl, sym, ap, subst, _∙_}
 use mathlib.Core.Bool.{false}
 use mathlib.Core.List.{List, [], map}
 use mathlib.Core.Logic.{_↔_, _⊎_, inl, inr}
-use Prim.Native.Nat.{ℕ, _≤_}
+use Prim.Native.Nat.{ℕ, zero, suc, _≤_, _<_}
 use native.Mathlib.Omega.{arith}
 use lib.ListN.{length, take}
 use Rattle.text.proofs.BlankWhiteLaws.{code-points-trim}
 use Rattle.texts.proofs.FontLaws.{width-exact}
 use Rattle.elements.specs.declared.LabelElement.{LabelElement}
 use Rattle.elements.specs.declared.refusal.Refusal.{Refusal}
-use Rattle.elements.specs.declared.refusal.Refusal.the-variants.{TextFields, BarcodeFields, Barcode2dFields, LineFields, DiagonalFields, BoxFields, BarcodeType, Barcode2dType, QrData, GraphicFields, GraphicNegative, GraphicTruncated, OutOfRange, InputTooLong, OutputTooShort, StateOutside, SizeOutside}
+use Rattle.elements.specs.declared.refusal.Refusal.the-variants.{TextFields, BarcodeFields, Barcode2dFields, LineFields, DiagonalFields, BoxFields, BarcodeType, Barcode2dType, QrData, GraphicFields, GraphicNegative, GraphicTruncated, OutOfRange, InputTooLong, OutputTooShort, StateOutside, NoValue, OutsideProfile, SizeOutside}
 use Rattle.elements.specs.Refusals.{numberOf}
 use Rattle.elements.specs.Walk.{fresh}
 use Rattle.element_frames.specs.Frame.{be32, head, frameOf}
@@ -35,7 +35,7 @@ use Rattle.grammar.specs.WellFormed.{wellFormed, faultOf}
 use Rattle.grammar.specs.Epl.{origin, epl}
 use Rattle.grammar.specs.Shapes.{kindOf, placeOf}
 use Rattle.grammar.specs.LineFaults.{LineFault}
-use Rattle.grammar.specs.Ranges.{Beyond, Beyond13}
+use Rattle.grammar.specs.Ranges.{Beyond, Beyond13, InRange}
 use Rattle.grammar.specs.Divided.{Earliest}
 use Rattle.grammar.specs.Normal.{normal, blocks, normalised}
 use Rattle.grammar.proofs.FoundLaws.{reads}
@@ -57,17 +57,25 @@ use Rattle.walk.specs.Steps.{answerOf}
 use Rattle.flat.proofs.FramesLaws.{flat-frame, flat-kind, flat-next}
 use Rattle.frames.specs.Listing.{FramedLabel, listingOf, outcomeOf, listingDue, dueOf}
 use Rattle.format.specs.Normalise as format
+use Rattle.profile.specs.Asks.{InProfile}
+use Rattle.strict.specs.declared.verdict.Checked.{Checked}
+use Rattle.strict.specs.Verdict.{bare, checkedOf}
+use Rattle.strict.specs.Listing.{strictDueOf}
+use Rattle.strict.specs.Look.{endOf}
+use Rattle.strict.proofs.ListingLaws.{own-due}
+use Rattle.strict.proofs.VerdictLaws.{accepted-by, clean-listed, listed-accepted, refused-plain, objected-by}
 use Rattle.frames.proofs.ListingRoomLaws.{length-listing-le, never-short}
 use Rattle.laddertick.specs.Contracts.{Library, Gives}
 use Rattle.laddertick.specs.Walked.{Walked, answered}
-use Rattle.laddertick.specs.Claims.{Divides, Normalising, Demand3, Claims, Theorem}
+use Rattle.laddertick.specs.Claims.{Divides, Normalising, Demand3, Profile, Claims, Theorem}
 use Rattle.laddertick.proofs.ColouredLaws.{exclusive-or}
 use Rattle.laddertick.proofs.WalkedLaws.{walked, one-walked, answered-is}
-use Rattle.laddertick.proofs.ContractsLaws.{step-hands-back, list-keeps, normalise-keeps, long-step, long-list, long-normalise, outside, end-keeps, ended-again, data-inside, denies}
+use Rattle.laddertick.proofs.ContractsLaws.{step-hands-back, list-keeps, normalise-keeps, strict-list-keeps, long-step, long-list, long-normalise, long-check, long-strict-list, outside, end-keeps, ended-again, data-inside, denies}
 use Rattle.laddertick.proofs.ContractsLaws as calls
 use Rattle.laddertick.proofs.Proved.{proved}
 use Rattle.laddertick.proofs.Starred.{starred}
 use Rattle.laddertick.proofs.Distinct.{distinct}
+use Rattle.laddertick.proofs.Profiled.{profiled}
 
 -- a frame looks only at the bytes of its own unit, wherever they stand
 local : Local epl (List ℕ) frameOf
@@ -89,6 +97,17 @@ in-theory s ls n d = record { units = d .units; division = d .division; range = 
 
 of-theory : (s : List ℕ) (ls : List FramedLabel) (n : ℕ) → labels-of.Divides epl (List ℕ) frameOf s origin ls n → Divides s ls n
 of-theory s ls n d = divided s ls n (d .units) (d .division) (d .range)
+
+-- two ends that list the same are one
+ending-same : (f g : Final) (ls ms : List FramedLabel) → ending f ls ≡ ending g ms → f ≡ g
+ending-same (accepted m) (accepted n) ls ms e = let k : m ≡ n = cc in ap accepted k
+ending-same (accepted m) (refusal n p) ls ms e = absurd (let z : _≡_ {A = ℕ} 0 1 = cc in omega arith)
+ending-same (refusal m p) (accepted n) ls ms e = absurd (let z : _≡_ {A = ℕ} 0 1 = cc in omega arith)
+ending-same (refusal m p) (refusal n q) ls ms e = let a : m ≡ n = cc in let b : p ≡ q = cc in λ i. refusal (a i) (b i)
+
+lt-of-ne : (n : ℕ) → (n ≡ 0 → ⊥) → 0 < n
+lt-of-ne zero z = absurd (z refl)
+lt-of-ne (suc n) z = omega arith
 
 module _ (library : Library) where
   -- what `normalise` does with any string within the limit
@@ -175,25 +194,63 @@ module _ (library : Library) where
           by (accepted m) e = let d = divides m e .1 in absurd (divides-no-earliest (d .division) (d .range) x)
           by (refusal m q) e = let o = one-earliest (to-earliest m q e) x in λ i. refusal (o .0 i) (o .1 i)
 
+  -- ---- the well-site profile
+  profile-at : (s : List ℕ) → length s ≤ longest → Profile library s (checkedOf s)
+  unfolding in-theory of-theory divided
+  profile-at s short = record {
+    accepted-exactly = ((λ z. let a = accepted-by s short z .2 in let d = of-theory s _ _ (a .divides) in (d .units, d .division, d .range, a .clean)), λ x. ap (λ (c : Checked). c .number) (clean-accepted x));
+    accepted-tells = λ z. let a = accepted-by s short z in listed-accepted s short (a .0) (a .1) (a .2 .lists);
+    accepted-alike = λ z.
+        let a = accepted-by s short z in
+        let d = of-theory s (a .0) (a .1) (a .2 .divides) in
+        let w = accepts s short (a .0) (a .1) d in (
+          a .0,
+          a .1,
+          byCode s short .0,
+          subst (Walked (library .step s) fresh (byCode s short .0)) (w .0) (byCode s short .1),
+          w .1,
+          λ l. calls.gives (strictDueOf s) l (library .strict-list s l) (listingOf (a .0) (a .1)) (ap listingDue (a .2 .lists)) (library .strictly-lists s l),
+        );
+    refused-alike = λ z o.
+        let r = refused-plain s short z o in
+        (byCode s short .0, subst (Walked (library .step s) fresh (byCode s short .0)) (walk-final ∙ r .0) (byCode s short .1), r .1, r .2);
+    objected = objected-by s short;
+    denied = λ z l. denies (strictDueOf s) l (library .strict-list s l) (own-due s (checkedOf s .number) (lt-of-ne (checkedOf s .number) z) refl) (library .strictly-lists s l);
+  }
+    where
+      clean-accepted : ((us : List EplUnit) × Division epl s us × InRange origin us × InProfile us) → checkedOf s ≡ bare 0 0
+      clean-accepted x =
+          let d : Divides s _ _ = record { units = x .0; division = x .1; range = x .2; found = refl; pending = refl } in
+          listed-accepted s short _ _ (clean-listed s short _ _ (in-theory s _ _ d) (x .3))
+
+      -- the walk's end, by its trace
+      walk-final : theWalk s short .final ≡ endOf s fresh
+      walk-final = ending-same (theWalk s short .final) (endOf s fresh) _ _ (sym (reach-outcome epl reads (List ℕ) frameOf (theWalk s short .ends)))
+
+  profile-of : (s : List ℕ) → length s ≤ longest → Profile library s (library .check s)
+  profile-of s short = subst (Profile library s) (sym (library .checks s)) (profile-at s short)
+
 -- ---- demand 1: the numbers of refusals
-numbered-of : (k : Refusal) → ((1 ≤ numberOf k) × (numberOf k ≤ 16)) ⊎ (numberOf k ≡ 19)
-numbered-of TextFields = inl (omega arith, omega arith)
-numbered-of BarcodeFields = inl (omega arith, omega arith)
-numbered-of Barcode2dFields = inl (omega arith, omega arith)
-numbered-of LineFields = inl (omega arith, omega arith)
-numbered-of DiagonalFields = inl (omega arith, omega arith)
-numbered-of BoxFields = inl (omega arith, omega arith)
-numbered-of BarcodeType = inl (omega arith, omega arith)
-numbered-of Barcode2dType = inl (omega arith, omega arith)
-numbered-of QrData = inl (omega arith, omega arith)
-numbered-of GraphicFields = inl (omega arith, omega arith)
-numbered-of GraphicNegative = inl (omega arith, omega arith)
-numbered-of GraphicTruncated = inl (omega arith, omega arith)
-numbered-of OutOfRange = inl (omega arith, omega arith)
-numbered-of InputTooLong = inl (omega arith, omega arith)
-numbered-of OutputTooShort = inl (omega arith, omega arith)
-numbered-of StateOutside = inl (omega arith, omega arith)
-numbered-of SizeOutside = inr refl
+numbered-of : (k : Refusal) → (1 ≤ numberOf k) × (numberOf k ≤ 19)
+numbered-of TextFields = (omega arith, omega arith)
+numbered-of BarcodeFields = (omega arith, omega arith)
+numbered-of Barcode2dFields = (omega arith, omega arith)
+numbered-of LineFields = (omega arith, omega arith)
+numbered-of DiagonalFields = (omega arith, omega arith)
+numbered-of BoxFields = (omega arith, omega arith)
+numbered-of BarcodeType = (omega arith, omega arith)
+numbered-of Barcode2dType = (omega arith, omega arith)
+numbered-of QrData = (omega arith, omega arith)
+numbered-of GraphicFields = (omega arith, omega arith)
+numbered-of GraphicNegative = (omega arith, omega arith)
+numbered-of GraphicTruncated = (omega arith, omega arith)
+numbered-of OutOfRange = (omega arith, omega arith)
+numbered-of InputTooLong = (omega arith, omega arith)
+numbered-of OutputTooShort = (omega arith, omega arith)
+numbered-of StateOutside = (omega arith, omega arith)
+numbered-of NoValue = (omega arith, omega arith)
+numbered-of OutsideProfile = (omega arith, omega arith)
+numbered-of SizeOutside = (omega arith, omega arith)
 
 -- ---- demand 2
 -- "All others begin kind, x, y"
@@ -212,9 +269,12 @@ claims library = record {
     step-hands-back = step-hands-back library;
     list-keeps = list-keeps library;
     normalise-keeps = normalise-keeps library;
+    strict-list-keeps = strict-list-keeps library;
     long-step = long-step library;
     long-list = long-list library;
     long-normalise = long-normalise library;
+    long-check = long-check library;
+    long-strict-list = long-strict-list library;
     outside = outside library;
     inside = calls.inside library;
     end-keeps = end-keeps library;
@@ -241,9 +301,11 @@ claims library = record {
     widths = width-exact;
     starred = starred;
     distinct = distinct;
+    profiled = profiled;
   };
   sized = calls.sized library;
   demand3 = demand-of library;
+  profile = profile-of library;
   block-bytes = block-bytes;
   line-blocks = line-blocks;
   flat = record { frame = flat-frame; next = flat-next; kind = flat-kind; clear = λ st. refl; end = λ st. refl };

@@ -41,6 +41,10 @@ use Rattle.walk.specs.Steps.{EplTrace, stateOf, answerOf}
 use Rattle.flat.specs.Steps.{walkOf}
 use Rattle.frames.specs.Listing.{outcomeOf, listingDue, dueOf}
 use Rattle.format.specs.Normalise as normal
+use Rattle.strict.specs.declared.verdict.Checked.{Checked}
+use Rattle.strict.specs.Listing.{strictDueOf}
+use Rattle.strict.proofs.LookLaws.{long-verdict}
+use Rattle.strict.proofs.ListingLaws.{own-due}
 use Rattle.laddertick.specs.Contracts.{Filling, Library, Denies, Gives}
 use Rattle.laddertick.specs.Walked.{Outside}
 use Rattle.laddertick.specs.Sized.{Sized}
@@ -136,6 +140,9 @@ module _ (library : Library) where
   pub normalise-keeps : (s l : List ℕ) (k : Refusal) (p : ℕ) → library .normalise s l .answer ≡ filled.Refused k p → library .normalise s l .buffer ≡ l
   normalise-keeps s l k p h = keeps (normal.dueOf s) l (library .normalise s l) k p h (library .normalises s l)
 
+  pub strict-list-keeps : (s l : List ℕ) (k : Refusal) (p : ℕ) → library .strict-list s l .answer ≡ filled.Refused k p → library .strict-list s l .buffer ≡ l
+  strict-list-keeps s l k p h = keeps (strictDueOf s) l (library .strict-list s l) k p h (library .strictly-lists s l)
+
   pub long-step : (s : List ℕ) (w : WalkState) → longest < length s → answerOf (library .step s w) ≡ theory.refused 14 0 (stateOf w)
   long-step s w h = library .steps s w ∙ step-long epl s (stateOf w) h
 
@@ -144,6 +151,14 @@ module _ (library : Library) where
 
   pub long-normalise : (s l : List ℕ) → longest < length s → Denies 14 0 l (library .normalise s l)
   long-normalise s l h = denies (normal.dueOf s) l (library .normalise s l) (within-long longest s _ h) (library .normalises s l)
+
+  pub long-check : (s : List ℕ) → longest < length s → library .check s ≡ record { number = 14; field = 0; held = 0; place = 0 }
+  long-check s h = library .checks s ∙ long-verdict s h
+
+  pub long-strict-list : (s l : List ℕ) → longest < length s → Denies 14 0 l (library .strict-list s l)
+  long-strict-list s l h =
+      let c = long-verdict s h in
+      denies (strictDueOf s) l (library .strict-list s l) (own-due s 14 (omega arith) (ap (λ (x : Checked). x .number) c) ∙ ap (λ (x : Checked). denied 14 (x .place)) c) (library .strictly-lists s l)
 
   pub outside : (s : List ℕ) (w : WalkState) → length s ≤ longest → Outside s w → answerOf (library .step s w) ≡ theory.refused 16 (w .place) (stateOf w)
   outside s w short o = library .steps s w ∙ step-outside s w short o

@@ -1,6 +1,7 @@
 -- the tables of computed cases
 pub mod Starred
 pub mod Distinct
+pub mod Profiled
 -- `LE` beside `LO`
 pub mod ColouredLaws
 -- data lies inside; sizes and ratios are those of an element's fields

@@ -1,5 +1,5 @@
--- What is claimed of the entry points `step`, `list` and `normalise`: of any functions that meet their contracts
--- (`Library`), as the code is proved to (`Proved`).
+-- What is claimed of the entry points `step`, `list`, `normalise`, `check` and `strict_list`: of any functions that
+-- meet their contracts (`Library`), as the code is proved to (`Proved`).
 -- Read first; each name leads to its definition. Quoted words are those of the three demands, or of 01.
 use mathlib.Core.Path.{_≡_}
 use mathlib.Core.Bool.{true, false}
@@ -56,6 +56,9 @@ use Rattle.flat.specs.Steps.{flatOf}
 use Rattle.flat.specs.Frames.{frameFlat, answerFrame, stateIn}
 use Rattle.frames.specs.Listing.{FramedLabel, listingOf, outcomeOf, dueOf}
 use Rattle.frames.specs.Printing.{printedOf, shownOf}
+use Rattle.profile.specs.Asks.{InProfile, Objected}
+use Rattle.profile.specs.Strict.{Own}
+use Rattle.strict.specs.declared.verdict.Checked.{Checked}
 use Rattle.laddertick.specs.Contracts.{Library, Denies, Gives}
 use Rattle.laddertick.specs.Proved.{Proved}
 use Rattle.laddertick.specs.Walked.{Walked, answered, Outside}
@@ -64,6 +67,7 @@ use Rattle.laddertick.specs.Sized.{Sized}
 use Rattle.laddertick.specs.Table.{Holds}
 use Rattle.laddertick.specs.Starred as starred
 use Rattle.laddertick.specs.Distinct as distinct
+use Rattle.laddertick.specs.Profiled as profiled
 
 -- "the string divides end to end into graphic blocks and command lines by 01's grammar with every position and size
 -- within signed 32 bits", and has these labels and n elements pending at its end
@@ -88,11 +92,16 @@ pub record Demand1 (library : Library) : Type 0 where
       → library .list s l .buffer ≡ l
   pub normalise-keeps : (s l : List ℕ) (k : Refusal) (p : ℕ) → library .normalise s l .answer ≡ filled.Refused k p
       → library .normalise s l .buffer ≡ l
+  pub strict-list-keeps : (s l : List ℕ) (k : Refusal) (p : ℕ) → library .strict-list s l .answer ≡ filled.Refused k p
+      → library .strict-list s l .buffer ≡ l
   -- "14 input over 16,777,216 bytes (place 0)", whatever the state and the buffer: "Order: 14, .."
   pub long-step : (s : List ℕ) (w : WalkState) → longest < length s
       → answerOf (library .step s w) ≡ refused 14 0 (stateOf w)
   pub long-list : (s l : List ℕ) → longest < length s → Denies 14 0 l (library .list s l)
   pub long-normalise : (s l : List ℕ) → longest < length s → Denies 14 0 l (library .normalise s l)
+  pub long-check : (s : List ℕ) → longest < length s
+      → library .check s ≡ record { number = 14; field = 0; held = 0; place = 0 }
+  pub long-strict-list : (s l : List ℕ) → longest < length s → Denies 14 0 l (library .strict-list s l)
   -- ".. 16 ..": "walk state with its place past the end, or its pending count above its place (place: as given)",
   -- whatever the string says
   pub outside : (s : List ℕ) (w : WalkState) → length s ≤ longest → Outside s w
@@ -109,7 +118,7 @@ pub record Demand1 (library : Library) : Type 0 where
   -- the data that a step answers lies within the input, so that a host which reads it stays inside what it lent
   pub data-inside : (s : List ℕ) (w w′ : WalkState) (e : LabelElement) → library .step s w ≡ Element w′ e
       → In (length s) e
-  pub numbered : (k : Refusal) → ((1 ≤ numberOf k) × (numberOf k ≤ 16)) ⊎ (numberOf k ≡ 19)
+  pub numbered : (k : Refusal) → (1 ≤ numberOf k) × (numberOf k ≤ 19)
 
 -- demand 2: the command forms, from 01's words. The definitions that the code's readers are proved equal to
 -- (`commandOf`, `wellFormed`, `first`, `acts`, `fieldOr`) say the same
@@ -157,6 +166,8 @@ pub record Demand2 : Type 0 where
   -- writes, character by character
   pub starred : Holds starred.table
   pub distinct : Holds distinct.table
+  -- and files under the well-site profile
+  pub profiled : Holds profiled.table
 
 -- the normalised text of a string that divides and has these labels and n elements pending at its end
 pub record Normalising (library : Library) (s : List ℕ) (ls : List FramedLabel) (n : ℕ) : Type 0 where
@@ -210,6 +221,28 @@ pub record Demand3 (library : Library) (s : List ℕ) : Type 0 where
       → Gives (listingOf ls n) l (library .list s l)
   pub lists-refusal : (n p : ℕ) → final ≡ refusal n p → (l : List ℕ) → Denies n p l (library .list s l)
 
+-- 01, "The well-site profile", of a string within the limit: c is the verdict of `check` on it
+pub record Profile (library : Library) (s : List ℕ) (c : Checked) : Type 0 where
+  -- it is accepted exactly where it divides in range and "every number field .. holds a value", in the profile's range,
+  -- stated on the units of the division and their fields
+  pub accepted-exactly : (c .number ≡ 0)
+      ↔ ((us : List EplUnit) × Division epl s us × InRange origin us × InProfile us)
+  -- "number 0: all fields 0"
+  pub accepted-tells : c .number ≡ 0 → c ≡ record { number = 0; field = 0; held = 0; place = 0 }
+  -- "A file that the profile accepts is accepted by the plain reading with the same labels" and the same count pending
+  -- at the end: those that `strict_list` lists
+  pub accepted-alike : c .number ≡ 0 → (ls : List FramedLabel) × (n : ℕ) × (xs : List Answer)
+      × Walked (library .step s) fresh xs (accepted n) × (answered s [] xs ≡ ls)
+      × ((l : List ℕ) → Gives (listingOf ls n) l (library .strict-list s l))
+  -- "a refusal other than 17 and 18 is the plain reading's own", number and place, and tells of no field
+  pub refused-alike : (c .number ≡ 0 → ⊥) → (Own (c .number) → ⊥) → (xs : List Answer)
+      × Walked (library .step s) fresh xs (refusal (c .number) (c .place)) × (c .field ≡ 0) × (c .held ≡ 0)
+  -- "17 a field with no value, 18 a value outside the profile (place of both: as for 1)": the field, from 1, is the
+  -- first of the earliest unit that is not as the profile asks, and held what is told; nothing before it is refused
+  pub objected : Own (c .number) → Objected s 0 origin (c .number) (c .place) (c .field) (c .held)
+  -- `strict_list` refuses as `check` does, whatever the buffer
+  pub denied : (c .number ≡ 0 → ⊥) → (l : List ℕ) → Denies (c .number) (c .place) l (library .strict-list s l)
+
 -- the flat answers of the static library, a : what `step` answers
 pub record Flat : Type 0 where
   -- an answer of `laddertick_step` rebuilt to 01's frame from its fields alone: an element's, a print's, a refusal's,
@@ -234,6 +267,8 @@ pub record Claims (library : Library) : Type 0 where
   pub sized : (s : List ℕ) (w w′ : WalkState) (e : LabelElement) → library .step s w ≡ Element w′ e → Sized e
   -- demand 3, whole
   pub demand3 : (s : List ℕ) → length s ≤ longest → Demand3 library s
+  -- the well-site profile, "beside the plain" reading
+  pub profile : (s : List ℕ) → length s ≤ longest → Profile library s (library .check s)
   -- a graphic block is its bytes, blanks, `GW`, four fields and payload; a line has none
   pub block-bytes : (bs p : List ℕ) (h : Header) → blocks (block bs h p)
       ≡ (bs ++ spelt "GW" (h .x ++ spelt "," (h .y ++ spelt "," (h .width ++ spelt "," (h .lines ++ spelt "," p))))) ∷ []

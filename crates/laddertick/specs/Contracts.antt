@@ -1,5 +1,5 @@
--- What the contracts of `step`, `list` and `normalise` say, as types; and any functions that meet them, over which the
--- claims are made. That the code meets them is `Proved`.
+-- What the contracts of `step`, `list`, `normalise`, `check` and `strict_list` say, as types; and any functions that
+-- meet them, over which the claims are made. That the code meets them is `Proved`.
 use mathlib.Core.Path.{_≡_}
 use mathlib.Core.List.{List, _++_}
 use Prim.Native.Nat.{ℕ, _≤_, _<_}
@@ -13,6 +13,9 @@ use Rattle.walk.specs.declared.answer.Answer.{Answer}
 use Rattle.walk.specs.Steps.{stateOf, answerOf}
 use Rattle.frames.specs.Listing as listing
 use Rattle.format.specs.Normalise as normal
+use Rattle.strict.specs.declared.verdict.Checked.{Checked}
+use Rattle.strict.specs.Verdict.{checkedOf}
+use Rattle.strict.specs.Listing.{strictDueOf}
 
 -- `step` answers r to the input s and the state w
 abbrev pub Stepped : List ℕ → WalkState → Answer → Type 0
@@ -26,6 +29,14 @@ Listed s l n r = Fills n l (listing.dueOf s) (givenOf r)
 abbrev pub Normalised : List ℕ → List ℕ → List ℕ → Filled → Type 0
 Normalised s l n r = Fills n l (normal.dueOf s) (givenOf r)
 
+-- `check` answers r to the input s
+abbrev pub Judged : List ℕ → Checked → Type 0
+Judged s r = r ≡ checkedOf s
+
+-- `strict_list` answers r to the input s and the buffer l, which becomes n
+abbrev pub StrictlyListed : List ℕ → List ℕ → List ℕ → Filled → Type 0
+StrictlyListed s l n r = Fills n l (strictDueOf s) (givenOf r)
+
 -- what a call that fills a lent buffer answers, and the buffer afterwards
 pub record Filling : Type 0 where
   pub answer : Filled
@@ -36,9 +47,13 @@ pub record Library : Type 0 where
   pub step : List ℕ → WalkState → Answer
   pub list : List ℕ → List ℕ → Filling
   pub normalise : List ℕ → List ℕ → Filling
+  pub check : List ℕ → Checked
+  pub strict-list : List ℕ → List ℕ → Filling
   pub steps : (s : List ℕ) (w : WalkState) → Stepped s w (step s w)
   pub lists : (s l : List ℕ) → Listed s l (list s l .buffer) (list s l .answer)
   pub normalises : (s l : List ℕ) → Normalised s l (normalise s l .buffer) (normalise s l .answer)
+  pub checks : (s : List ℕ) → Judged s (check s)
+  pub strictly-lists : (s l : List ℕ) → StrictlyListed s l (strict-list s l .buffer) (strict-list s l .answer)
 
 -- ---- what a call did, from its answer and its buffer alone
 

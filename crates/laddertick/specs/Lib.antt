@@ -8,7 +8,9 @@ pub mod Coloured
 pub mod Sized
 -- the code, and the contracts that it is proved to meet
 pub mod Proved
--- tables of computed cases: 01, "Corners", the starred ones; each command and type with distinct fields
+-- tables of computed cases: 01, "Corners", the starred ones; each command and type with distinct fields; the well-site
+-- profile
 pub mod Table
 pub mod Starred
 pub mod Distinct
+pub mod Profiled

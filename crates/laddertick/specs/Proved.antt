@@ -20,7 +20,13 @@ use Rattle.frames.proofs.listing.list.Reads as list-reads
 use Rattle.format.proofs.normalise.normalise.Statement as normalise
 use Rattle.format.proofs.normalise.normalise.Kinds as normalise-kinds
 use Rattle.format.proofs.normalise.normalise.Reads as normalise-reads
-use Rattle.laddertick.specs.Contracts.{Stepped, Listed, Normalised}
+use Rattle.strict.proofs.check.check.Statement as check
+use Rattle.strict.proofs.check.check.Kinds as check-kinds
+use Rattle.strict.proofs.check.check.Reads as check-reads
+use Rattle.strict.proofs.listing.strict_list.Statement as strict-list
+use Rattle.strict.proofs.listing.strict_list.Kinds as strict-list-kinds
+use Rattle.strict.proofs.listing.strict_list.Reads as strict-list-reads
+use Rattle.laddertick.specs.Contracts.{Stepped, Listed, Normalised, Judged, StrictlyListed}
 
 -- what is said of the arguments, the result and the arguments at exit by the first is said by the second
 abbrev pub Owes : (n : ℕ) (ps : List (PK n)) (r : RK n) → Out n ps r → Out n ps r → Type 0
@@ -32,6 +38,8 @@ pub record Proved : Type 2 where
   pub step : {M : Type 1} → step.statement M
   pub list : {M : Type 1} → list.statement M
   pub normalise : {M : Type 1} → normalise.statement M
+  pub check : {M : Type 1} → check.statement M
+  pub strict-list : {M : Type 1} → strict-list.statement M
   -- a are the arguments, r the result, z the arguments at exit: the input, then the state or the buffer
   pub start-owes : Owes 0 start-kinds.ps start-kinds.r start-reads.Post (λ κs a r z. r ≡ fresh)
   pub step-owes : Owes 1 step-kinds.ps step-kinds.r step-reads.Post (λ κs a r z. Stepped (a .0 .now) (a .1 .0) r)
@@ -39,3 +47,6 @@ pub record Proved : Type 2 where
       (λ κs a r z. Listed (a .0 .now) (a .1 .0 .now) (z .1 .0 .now) r)
   pub normalise-owes : Owes 2 normalise-kinds.ps normalise-kinds.r normalise-reads.Post
       (λ κs a r z. Normalised (a .0 .now) (a .1 .0 .now) (z .1 .0 .now) r)
+  pub check-owes : Owes 1 check-kinds.ps check-kinds.r check-reads.Post (λ κs a r z. Judged (a .0 .now) r)
+  pub strict-list-owes : Owes 2 strict-list-kinds.ps strict-list-kinds.r strict-list-reads.Post
+      (λ κs a r z. StrictlyListed (a .0 .now) (a .1 .0 .now) (z .1 .0 .now) r)

@@ -1,12 +1,13 @@
 -- Tables of computed cases: inputs, each with all that the steps answer from the fresh state on, up to and including
--- the end or the refusal, or with its normalised text, or with the lines that `list` writes. `Holds`: every row does.
+-- the end or the refusal, or with its normalised text, or with the lines that `list` writes, or with what the profile
+-- says of it. `Holds`: every row does.
 use mathlib.Core.Path.{_≡_}
 use mathlib.Core.List.{List, [], _∷_}
 use Prim.Native.Nat.{ℕ, zero, suc}
 use Prim.Native.String.{String}
 use Rattle.elements.specs.declared.LabelPosition.{LabelPosition}
 use Rattle.elements.specs.Walk as walk
-use Rattle.elements.specs.Given.{text}
+use Rattle.elements.specs.Given.{Due, text}
 use Rattle.whole.specs.Step.{State, element, cleared, printed, ended, refused, step}
 use Rattle.whole.specs.Trace.{left}
 use Rattle.text.specs.Ascii.{ascii}
@@ -15,6 +16,9 @@ use Rattle.grammar.specs.Normal.{normalised}
 use Rattle.walk.specs.Steps as steps
 use Rattle.walk.specs.Steps.{EplAnswer}
 use Rattle.frames.specs.Listing.{dueOf}
+use Rattle.strict.specs.declared.verdict.Checked.{Checked}
+use Rattle.strict.specs.Verdict.{checkedOf}
+use Rattle.strict.specs.Listing.{strictDueOf}
 
 abbrev pub EplState : Type 0
 EplState = State LabelPosition
@@ -39,11 +43,14 @@ answersOf (suc k) s st = onward (λ st′. answersOf k s st′) (step epl s st)
 abbrev pub answers : List ℕ → List EplAnswer
 answers s = answersOf (suc (left s fresh)) s fresh
 
--- an input with all that is answered to it, with its normalised text, or with its listing
+-- an input with all that is answered to it, with its normalised text, with its listing, with the profile's verdict on
+-- it, or with what is due to `strict_list`
 pub data Case : Type 0 where
   says : List ℕ → List EplAnswer → Case
   becomes : List ℕ → List ℕ → Case
   lists : List ℕ → List ℕ → Case
+  judges : List ℕ → Checked → Case
+  strictly : List ℕ → Due → Case
 
 -- every row of a table holds
 abbrev pub Holds : List Case → Type 0
@@ -51,6 +58,8 @@ Holds [] = Unit
 Holds (says s xs ∷ cs) = (answers s ≡ xs) × Holds cs
 Holds (becomes s t ∷ cs) = (normalised s ≡ t) × Holds cs
 Holds (lists s t ∷ cs) = (dueOf s ≡ text t) × Holds cs
+Holds (judges s c ∷ cs) = (checkedOf s ≡ c) × Holds cs
+Holds (strictly s d ∷ cs) = (strictDueOf s ≡ d) × Holds cs
 
 -- How the rows are written, in characters:
 abbrev pub case : String → List EplAnswer → Case

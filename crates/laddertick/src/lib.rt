@@ -1,5 +1,6 @@
-// The host's entry points: a walk a step at a time, the listing of a file, and its normalised text, with every type
-// that a host is handed. What is claimed of them stands in specs/Claims.antt.
+// The host's entry points: a walk a step at a time, the listing of a file, and its normalised text; the well-site
+// profile's verdict on a file, and its listing under the profile; with every type that a host is handed. What is claimed
+// of them stands in specs/Claims.antt.
 pub use elements::Barcode2of5;
 pub use elements::Barcode2of5WithData;
 pub use elements::Barcode39;
@@ -42,6 +43,9 @@ pub use elements::walk_state::WalkState;
 pub use elements::walk_state::start;
 pub use format::normalise::normalise;
 pub use frames::listing::list;
+pub use strict::check::check;
+pub use strict::listing::strict_list;
+pub use strict::verdict::Checked;
 pub use walk::answer::Answer;
 pub use walk::answer::Printed;
 pub use walk::step::step;

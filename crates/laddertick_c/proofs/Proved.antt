@@ -12,6 +12,8 @@ use Rattle.walk.specs.Steps.{stateOf}
 use Rattle.flat.specs.Steps.{flatOf}
 use Rattle.frames.specs.Listing as listing
 use Rattle.format.specs.Normalise as normal
+use Rattle.strict.specs.Verdict.{checkedOf}
+use Rattle.strict.specs.Listing.{strictDueOf}
 use Rattle.laddertick.specs.Proved.{Owes}
 use Rattle.laddertick_c.proofs.laddertick_start.Statement as start
 use Rattle.laddertick_c.proofs.laddertick_start.Kinds as start-kinds
@@ -33,6 +35,14 @@ use Rattle.laddertick_c.proofs.laddertick_normalise.Statement as normal
 use Rattle.laddertick_c.proofs.laddertick_normalise.Kinds as normalise-kinds
 use Rattle.laddertick_c.proofs.laddertick_normalise.Reads as normalise-reads
 use Rattle.laddertick_c.proofs.laddertick_normalise.Met as normalise-met
+use Rattle.laddertick_c.proofs.laddertick_check.Statement as check
+use Rattle.laddertick_c.proofs.laddertick_check.Kinds as check-kinds
+use Rattle.laddertick_c.proofs.laddertick_check.Reads as check-reads
+use Rattle.laddertick_c.proofs.laddertick_check.Met as check-met
+use Rattle.laddertick_c.proofs.laddertick_strict_list.Statement as strict-list
+use Rattle.laddertick_c.proofs.laddertick_strict_list.Kinds as strict-list-kinds
+use Rattle.laddertick_c.proofs.laddertick_strict_list.Reads as strict-list-reads
+use Rattle.laddertick_c.proofs.laddertick_strict_list.Met as strict-list-met
 
 pub record Proved : Type 2 where
   pub start : {M : Type 1} → start.statement M
@@ -40,12 +50,16 @@ pub record Proved : Type 2 where
   pub decode : {M : Type 1} → decode.statement M
   pub list : {M : Type 1} → list.statement M
   pub normalise : {M : Type 1} → normalise.statement M
+  pub check : {M : Type 1} → check.statement M
+  pub strict-list : {M : Type 1} → strict-list.statement M
   pub start-owes : Owes 0 start-kinds.ps start-kinds.r start-reads.Post (λ κs a r z. r ≡ fresh)
   pub step-owes : Owes 1 step-kinds.ps step-kinds.r step-reads.Post (λ κs a r z. r ≡ flatOf (theory.step epl (a .0 .now) (stateOf (a .1 .0))))
   pub decode-owes : Owes 2 decode-kinds.ps decode-kinds.r decode-reads.Post
       (λ κs a r z. Fills (z .1 .1 .1 .0 .now) (a .1 .1 .1 .0 .now) (decoding.dueOf (a .0 .now) (record { start = a .1 .0; len = a .1 .1 .0 })) (givenFlat r))
   pub list-owes : Owes 2 list-kinds.ps list-kinds.r list-reads.Post (λ κs a r z. Fills (z .1 .0 .now) (a .1 .0 .now) (listing.dueOf (a .0 .now)) (givenFlat r))
   pub normalise-owes : Owes 2 normalise-kinds.ps normalise-kinds.r normalise-reads.Post (λ κs a r z. Fills (z .1 .0 .now) (a .1 .0 .now) (normal.dueOf (a .0 .now)) (givenFlat r))
+  pub check-owes : Owes 1 check-kinds.ps check-kinds.r check-reads.Post (λ κs a r z. r ≡ checkedOf (a .0 .now))
+  pub strict-list-owes : Owes 2 strict-list-kinds.ps strict-list-kinds.r strict-list-reads.Post (λ κs a r z. Fills (z .1 .0 .now) (a .1 .0 .now) (strictDueOf (a .0 .now)) (givenFlat r))
 
 pub proved : Proved
 proved = record {
@@ -54,9 +68,13 @@ proved = record {
   decode = decode-met.met;
   list = list-met.met;
   normalise = normalise-met.met;
+  check = check-met.met;
+  strict-list = strict-list-met.met;
   start-owes = λ κs a r z p. p;
   step-owes = λ κs a r z p. p;
   decode-owes = λ κs a r z p. p;
   list-owes = λ κs a r z p. p;
   normalise-owes = λ κs a r z p. p;
+  check-owes = λ κs a r z p. p;
+  strict-list-owes = λ κs a r z p. p;
 }

@@ -7,6 +7,8 @@ ghost use Rattle.decoding.specs.Decoding as decoding;
 ghost use Rattle.flat.specs.Written.{givenFlat};
 ghost use Rattle.format.specs.Normalise as normalise;
 ghost use Rattle.frames.specs.Listing as listing;
+ghost use Rattle.strict.specs.Verdict.{checkedOf};
+ghost use Rattle.strict.specs.Listing.{strictDueOf};
 ghost use Rattle.elements.specs.Walk.{fresh};
 ghost use Rattle.walk.specs.Steps.{stateOf};
 ghost use Rattle.flat.specs.Steps.{flatOf};
@@ -16,11 +18,14 @@ use flat::answer::FlatAnswer;
 use flat::steps::flat_step;
 use flat::written::Written;
 use flat::written::of_filled;
+use laddertick::Checked;
 use laddertick::WalkState;
+use laddertick::check;
 use laddertick::list;
 use laddertick::normalise;
 use laddertick::start;
 use laddertick::step;
+use laddertick::strict_list;
 
 // The state before the first byte.
 #[no_mangle]
@@ -61,4 +66,20 @@ pub extern "C" fn laddertick_normalise(input: &[u8], out: &mut [u8]) -> Written
     ensures { λ r. ⌜ Fills (now (out .exit)) (now (out .entry)) (normalise.dueOf (now (input .entry))) (givenFlat r) ⌝ }
 {
     of_filled(normalise(input, out))
+}
+
+// The well-site profile's verdict on input.
+#[no_mangle]
+pub extern "C" fn laddertick_check(input: &[u8]) -> Checked
+    ensures { λ r. ⌜ r ≡ checkedOf (now (input .entry)) ⌝ }
+{
+    check(input)
+}
+
+// The listing of input's labels under the profile, from the start of out, or a refusal that leaves out as it came.
+#[no_mangle]
+pub extern "C" fn laddertick_strict_list(input: &[u8], out: &mut [u8]) -> Written
+    ensures { λ r. ⌜ Fills (now (out .exit)) (now (out .entry)) (strictDueOf (now (input .entry))) (givenFlat r) ⌝ }
+{
+    of_filled(strict_list(input, out))
 }

@@ -30,14 +30,14 @@ pub enum Command {
 }
 
 // The byte at i, or 0 past the end.
-pub(crate) fn byte_at(t: &[u8], i: usize) -> u8
+pub fn byte_at(t: &[u8], i: usize) -> u8
     ensures { λ r. ⌜ r ≡ getD (now (t .entry)) i 0 ⌝ }
 {
     if i < t.len() { t[i] } else { 0 }
 }
 
 // `R` and a digit.
-pub(crate) fn is_epl_reference_point(t: &[u8]) -> bool
+pub fn is_epl_reference_point(t: &[u8]) -> bool
     ensures { λ r. ⌜ r ≡ isReference (now (t .entry)) ⌝ }
 {
     (byte_at(t, 0) == b'R') & is_digit(byte_at(t, 1))

@@ -8,4 +8,6 @@ pub mod TraceLaws
 pub mod RefusalLaws
 pub mod OutcomeLaws
 pub mod Again
+pub mod StrictLaws
+pub mod StrictEndLaws
 pub mod Cases

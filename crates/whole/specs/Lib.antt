@@ -16,3 +16,5 @@ pub mod Trace
 pub mod Normal
 -- what a language of units has to show, and what follows
 pub mod Claims
+-- 01, "The well-site profile": a strict reading of a language of units
+pub mod Strict

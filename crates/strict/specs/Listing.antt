@@ -1,0 +1,17 @@
+-- The listing under the profile (01, "The well-site profile"): what the strict walk of an input lists.
+use mathlib.Core.List.{List}
+use Prim.Native.Nat.{ℕ}
+use Rattle.elements.specs.Given.{Due}
+use Rattle.elements.specs.Walk.{fresh}
+use Rattle.element_frames.specs.Frame.{frameOf}
+use Rattle.whole.specs.Trace.{outcome}
+use Rattle.walk.specs.Steps.{stateOf}
+use Rattle.frames.specs.Listing.{FramedOutcome, listingDue}
+use Rattle.profile.specs.Strict.{strict}
+
+abbrev pub strictOutcomeOf : List ℕ → FramedOutcome
+strictOutcomeOf s = outcome strict (List ℕ) frameOf s (stateOf fresh)
+
+-- what is due to `strict_list`
+abbrev pub strictDueOf : List ℕ → Due
+strictDueOf s = listingDue (strictOutcomeOf s)
