@@ -1,5 +1,6 @@
 -- A language of one-byte units, which meets what this crate asks of a language, and the definitions on small strings of
--- it by computation. Assumes nothing.
+-- it by computation: what a theorem cannot pin, as the first place of an entry behind a print line that printed nothing.
+-- Assumes nothing.
 use mathlib.Core.Path.{_≡_, refl, sym, ap, _∙_}
 use mathlib.Core.Bool.{Bool, true, false, cond}
 use mathlib.Core.List.{List, [], _∷_}
@@ -10,13 +11,15 @@ use lib.ListN.{length, getD}
 use lib.Seq.{getD-append-add}
 use Rattle.elements.specs.Given.{longest}
 use Rattle.whole.specs.Language.{First, none, bad, unit, Act, keep, clear, yield, print, outside, Language}
-use Rattle.whole.specs.Division.{Division, Reads}
-use Rattle.whole.specs.Labels.{flush, labels, labelsOf}
+use Rattle.whole.specs.Division.{Division, Reads, Firm, unitsOf}
+use Rattle.whole.specs.Labels.{Label, flush, labels, labelsOf, Divides}
 use Rattle.whole.specs.Step.{state, handing, answer, step}
 use Rattle.whole.specs.Trace.{listed, trace, outcome}
 use Rattle.whole.specs.Normal.{none-left, and-then, no-longer, Normalises, Normal}
 use Rattle.whole.specs.Claims.{Local, Walks}
+use Rattle.whole.specs.Index.{unfilled, entries, filling, opens, denies, opening, Indexed}
 use Rattle.whole.proofs.Whole.{whole}
+use Rattle.whole.proofs.Index.{indexed}
 use Rattle.whole.proofs.Again.{normal-text}
 
 -- `N` clears to 0, `P` prints, `!` is out of range, 5 and 7 set the reference, any other byte but `?`, which is a
@@ -108,3 +111,58 @@ cleared-end = refl
 divided-end : labelsOf letters ℕ byte 0 [] (65 ∷ 80 ∷ 66 ∷ 67 ∷ []) ≡ labels (record { count = 1; says = tt; frames = 65 ∷ [] } ∷ []) 2
 unfolding flush
 divided-end = refl
+
+-- ---- the index
+firm : Firm letters
+firm u b rest st t = st
+
+index-letters : (s : List ℕ) → length s ≤ longest → (ls : List (Label ℕ Unit)) (n : ℕ) → Divides letters ℕ byte s 0 ls n → Indexed letters ℕ byte 0 s ls
+index-letters s short = indexed letters reads firm ℕ byte local s short 0
+
+-- `5AP`, an empty `P`, `B7CP`: the second entry starts behind the empty print line, with the reference that the first
+-- label left
+two : List ℕ
+two = 53 ∷ 65 ∷ 80 ∷ 80 ∷ 66 ∷ 55 ∷ 67 ∷ 80 ∷ []
+
+entries-two : entries letters 0 two ≡ record { from = 0; upto = 3; count = 1; start = 0 } ∷ record { from = 4; upto = 8; count = 2; start = 5 } ∷ []
+unfolding unitsOf two
+entries-two = refl
+
+-- what is pending at the end, behind `A` and a clear, has no entry; a list that is one too short, and one that is not
+entries-pending : entries letters 0 (65 ∷ 80 ∷ 66 ∷ 78 ∷ 67 ∷ []) ≡ record { from = 0; upto = 2; count = 1; start = 0 } ∷ []
+unfolding unitsOf
+entries-pending = refl
+
+fills-short : filling letters 0 two 1 ≡ unfilled 20 2
+unfolding unitsOf trace step answer handing two
+fills-short = refl
+
+fills-refused : filling letters 0 (65 ∷ 80 ∷ 63 ∷ []) 0 ≡ unfilled 1 2
+unfolding unitsOf trace step answer handing
+fills-refused = refl
+
+-- ---- opening: the second label; past the last; an entry whose last place is before its first, and one past the end
+opens-second : opening letters ℕ byte two (entries letters 0 two) 1 ≡ opens (record { count = 2; says = tt; frames = 66 ∷ 67 ∷ [] })
+unfolding unitsOf trace step answer handing two
+opens-second = refl
+
+opens-past : opening letters ℕ byte two (entries letters 0 two) 2 ≡ denies 21 2
+unfolding unitsOf two
+opens-past = refl
+
+opens-backwards : opening letters ℕ byte two (record { from = 5; upto = 3; count = 1; start = 0 } ∷ []) 0 ≡ denies 16 3
+unfolding two
+opens-backwards = refl
+
+opens-beyond : opening letters ℕ byte two (record { from = 0; upto = 9; count = 1; start = 0 } ∷ []) 0 ≡ denies 16 9
+unfolding two
+opens-beyond = refl
+
+-- an entry that yields no label; one with a wrong count, and with a refused byte behind its print
+opens-none : opening letters ℕ byte two (record { from = 0; upto = 2; count = 1; start = 0 } ∷ []) 0 ≡ denies 21 0
+unfolding trace step answer handing two
+opens-none = refl
+
+opens-first : opening letters ℕ byte (65 ∷ 80 ∷ 63 ∷ []) (record { from = 0; upto = 3; count = 9; start = 0 } ∷ []) 0 ≡ opens (record { count = 1; says = tt; frames = 65 ∷ [] })
+unfolding trace step answer handing
+opens-first = refl

@@ -10,4 +10,8 @@ pub mod OutcomeLaws
 pub mod Again
 pub mod StrictLaws
 pub mod StrictEndLaws
+pub mod Index
+pub mod NextLaws
+pub mod UnrefusedLaws
+pub mod IndexingLaws
 pub mod Cases

@@ -14,6 +14,10 @@ pub mod Reach
 pub mod Trace
 -- 01, "format.rs": normalised text
 pub mod Normal
+-- the label index: an entry for each label, and what opening one answers
+pub mod Index
+-- the same one entry at a time
+pub mod Next
 -- what a language of units has to show, and what follows
 pub mod Claims
 -- 01, "The well-site profile": a strict reading of a language of units

@@ -34,6 +34,14 @@ after (yields e t) = after t
 after (clears t) = clears t
 after (prints n q t) = prints n q t
 
+-- how many labels are printed on the way
+abbrev pub printsIn : {E P : Type 0} → Trace E P → ℕ
+printsIn (stops n) = 0
+printsIn (refuses n k) = 0
+printsIn (yields e t) = printsIn t
+printsIn (clears t) = printsIn t
+printsIn (prints n q t) = suc (printsIn t)
+
 -- what a walk lists: its labels and the count of what is pending at the end, or the refusal alone
 pub data Outcome (F P : Type 0) : Type 0 where
   listed : List (Label F P) → ℕ → Outcome F P

@@ -1,0 +1,2 @@
+-- a list that is filled from the front
+pub mod Filled
