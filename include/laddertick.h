@@ -5,10 +5,10 @@
  * takes no heap and calls nothing: every function may be called from any thread at any time, also on the same input at once. A call needs less than 64 KiB
  * of stack (docs/PERFORMANCE.md has the measured figure).
  *
- * What you lend stays yours. A function reads `input` and writes `out` only between their ends and only until it returns; it keeps no pointer. `input` and
- * `out` must not overlap, and nobody may write the input during a call or while a walk over it lasts. Where a length is 0 any pointer will do, NULL too.
+ * What you lend stays yours. A function reads `input` and writes `out` and `entries` only between their ends and only until it returns; it keeps no pointer. What
+ * is lent to one call must not overlap, and nobody may write the input during a call or while a walk over it lasts. Where a length is 0 any pointer will do, NULL too.
  *
- * Nothing else is asked of you. Any bytes, any lengths and any walk state, however made, are answered or refused; a refused call leaves `out` as it came.
+ * Nothing else is asked of you. Any bytes, any lengths, any walk state and any entry, however made, are answered or refused; a refused call leaves what it writes as it came.
  * For what is proved of each function, and what is assumed, see docs/CONTRACTS.md.
  *
  * A file is at most LADDERTICK_LONGEST bytes.
@@ -49,12 +49,16 @@ enum {
     /* The host: */
     LADDERTICK_INPUT_TOO_LONG = 14,   /* more than LADDERTICK_LONGEST bytes; the place is 0 */
     LADDERTICK_OUTPUT_TOO_SHORT = 15, /* the place is the length that is needed */
-    LADDERTICK_STATE_OUTSIDE = 16,    /* a walk whose place is past the end, or whose pending count is above its place; the place is the walk's */
+    LADDERTICK_STATE_OUTSIDE = 16,    /* a walk whose place is past the end, or whose pending count is above its place; the place is the walk's. Or an entry whose last
+                                         place is past the end or before its first; the place is that last place */
     /* The author again, at the first byte of the line, by the well-site profile alone (laddertick_check, laddertick_strict_list): */
     LADDERTICK_NO_VALUE = 17,        /* a number field that holds no value: it is empty, no number, or a number beyond 32 bits */
     LADDERTICK_OUTSIDE_PROFILE = 18, /* a value that the profile does not allow */
     /* The author again, at the first byte of the line: a difference of two corners, its absolute value or a font product outside 32 bits; directly after 13. */
-    LADDERTICK_SIZE_OUT_OF_RANGE = 19
+    LADDERTICK_SIZE_OUT_OF_RANGE = 19,
+    /* The host again, with the label index: */
+    LADDERTICK_TOO_MANY_LABELS = 20, /* more labels than entries are lent; the place is the label count */
+    LADDERTICK_NO_SUCH_LABEL = 21    /* a number past the list, or an entry that yields no label; the place is the number */
 };
 
 /* ---- a file, a step at a time ---- */
@@ -142,7 +146,7 @@ laddertick_walk laddertick_start(void);
 
 /* The next element, clear, print, end or refusal. Lines that say none of these are passed. The end prints nothing: where `next.pending` is not 0 then, the file
    lacks the print line of its last elements, as one that was sent by halves does, and an operator should learn of it.
-   Refusals: all but 15, 17 and 18. A loop stops at LADDERTICK_END and at LADDERTICK_REFUSED: the next step from there answers the same again. */
+   Refusals: 1 to 14, 16 and 19. A loop stops at LADDERTICK_END and at LADDERTICK_REFUSED: the next step from there answers the same again. */
 laddertick_answer laddertick_step(const uint8_t *input, size_t input_len, laddertick_walk walk);
 
 /* ---- functions that write ---- */
@@ -159,7 +163,7 @@ typedef struct laddertick_written {
 laddertick_written laddertick_data(const uint8_t *input, size_t input_len, size_t start, size_t len, uint8_t *out, size_t out_len);
 
 /* The labels of a file as frames, one a line in hexadecimal (docs/FRAMES.md); behind them frame fe, if elements are pending at the end. The whole file is read
-   before anything is written. 16 * n bytes are always enough for n. Refusals: all but 16, 17 and 18. */
+   before anything is written. 16 * n bytes are always enough for n. Refusals: 1 to 15 and 19. */
 laddertick_written laddertick_list(const uint8_t *input, size_t input_len, uint8_t *out, size_t out_len);
 
 /* The file with blanks and empty lines taken away and graphics copied whole. n + n / 6 + 1 bytes are always enough for n. Refusals: 14, 15. */
@@ -190,11 +194,52 @@ enum {
     LADDERTICK_HELD_OUTSIDE = 4    /* 18: a value outside the profile */
 };
 
-/* The profile's verdict on a whole file. Refusals: all but 15 and 16. */
+/* The profile's verdict on a whole file. Refusals: 1 to 14 and 17 to 19. */
 laddertick_checked laddertick_check(const uint8_t *input, size_t input_len);
 
-/* As laddertick_list, under the profile. Refusals: all but 16. */
+/* As laddertick_list, under the profile. Refusals: 1 to 15 and 17 to 19. */
 laddertick_written laddertick_strict_list(const uint8_t *input, size_t input_len, uint8_t *out, size_t out_len);
+
+/* ---- the label index: one label of a file at a time ---- */
+
+/* Where a label stands. It starts just behind the print line before it, one that printed nothing included, or at 0; N and R start none. */
+typedef struct laddertick_entry {
+    size_t first; /* its first byte */
+    size_t last;  /* just past its own print line */
+    size_t count; /* how many elements it has */
+    int32_t x;    /* the reference point at `first` */
+    int32_t y;
+} laddertick_entry;
+
+/* An entry for each label of a file, in print order, from the start of the list. number 0: `place` is the label count, and entries past the last label keep their
+   values. Else a refusal, and the list is as it came. To learn the label count lend 0 entries: 20 gives it (or number 0 does, where there are no labels). Elements
+   behind the last print line are no label and have no entry. The whole file is read before anything is written.
+   Refusals: 14, then that of the file (1 to 13, 19), then 20. */
+laddertick_written laddertick_index(const uint8_t *input, size_t input_len, laddertick_entry *entries, size_t entries_len);
+
+/* The lines of the listing for one label, frame 00 and those of its elements, from the start of out: what laddertick_list writes for it, read from its entry alone.
+   `entries` is the filled part of the list and `number` counts from 0. Of `entries` only that entry is looked at, and its count is not; of the input only what
+   stands from its first place to its print line. So a call costs the label's own bytes, however long the file is. An entry that laddertick_index did not make, or
+   made of other bytes, is answered or refused like any other.
+   Refusals, in this order: 14; 21 where number is past the list; 16; that of the lines read (1 to 13, 19); 21 where they print no label; 15. */
+laddertick_written laddertick_open(const uint8_t *input, size_t input_len, const laddertick_entry *entries, size_t entries_len, size_t number, uint8_t *out,
+                                   size_t out_len);
+
+/* One label's elements are walked from its entry, the input cut at the entry's last place. An N inside drops what came before it:
+
+       laddertick_walk walk = {entry.x, entry.y, 0, entry.first};
+       laddertick_answer a;
+       do {
+           a = laddertick_step(input, entry.last, walk);
+           if (a.kind >= LADDERTICK_TEXT && a.kind <= LADDERTICK_UPC_E)
+               element(a.element);
+           else if (a.kind == LADDERTICK_CLEAR)
+               drop_elements();
+           walk = a.next;
+       } while (a.kind != LADDERTICK_PRINT && a.kind != LADDERTICK_END && a.kind != LADDERTICK_REFUSED);
+
+   Of an entry that laddertick_index made of these bytes the last answer is the print, with count, sets and copies. Of any other it may be the end or a refusal, and a host that
+   took it from elsewhere looks first whether `last` is within the input. */
 
 #ifdef __cplusplus
 }

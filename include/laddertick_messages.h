@@ -26,10 +26,12 @@
     X(13, "a position outside 32 bits, the reference point added") \
     X(14, "more than 16,777,216 bytes") \
     X(15, "the buffer is too short") \
-    X(16, "a walk whose place is past the end, or whose pending count is above its place") \
+    X(16, "a walk whose place is past the end or whose pending count is above its place, or an entry whose last place is past the end or before its first") \
     X(17, "a field holds no value, which the well-site profile asks for") \
     X(18, "a value outside the well-site profile") \
-    X(19, "a size outside 32 bits: of a diagonal, a box or a text")
+    X(19, "a size outside 32 bits: of a diagonal, a box or a text") \
+    X(20, "more labels than the list has entries") \
+    X(21, "no such label")
 /* clang-format on */
 
 #endif

@@ -2,13 +2,14 @@
  * Lists a file's labels in words: a walk over the file, a step at a time.
  *
  *     explain FILE
+ *     explain FILE N    label N alone, from 1: walked from its entry in the index, over its own bytes
  *
  * Each label is a line with its element count, sets and copies, then a line for each element. Elements behind the last print line are no label: a warning on standard error tells how
  * many there are. A refused file is explained on standard error, and nothing else is printed.
  */
 #include <inttypes.h>
 
-#include "file.h"
+#include "labels.h"
 
 static const char *const KINDS[] = {
     "",       "text",     "box",     "diagonal", "graphic", "Code 128",    "EAN-13", "EAN-8",    "UPC-A",
@@ -90,11 +91,10 @@ static void explain_label(const char *name, bytes input, laddertick_walk walk, s
     }
 }
 
-/* Walks to the end or to a refusal, and gives that last answer; where `out` is set it explains each label when its print is reached. Counts the labels. */
-static laddertick_answer walk_file(const char *name, bytes input, int out, size_t *labels)
+/* Walks to the end or to a refusal, and gives that last answer; where `out` is set it explains each label when its print is reached. Counts the labels on. */
+static laddertick_answer walk_file(const char *name, bytes input, laddertick_walk walk, int out, size_t *count)
 {
-    laddertick_walk walk = laddertick_start(), first = walk;
-    *labels = 0;
+    laddertick_walk first = walk;
     for (;;) {
         laddertick_answer a = laddertick_step(input.at, input.len, walk);
         walk = a.next;
@@ -103,9 +103,9 @@ static laddertick_answer walk_file(const char *name, bytes input, int out, size_
         case LADDERTICK_END:
             return a;
         case LADDERTICK_PRINT:
-            ++*labels;
+            ++*count;
             if (out)
-                explain_label(name, input, first, *labels, a);
+                explain_label(name, input, first, *count, a);
             first = walk;
             break;
         case LADDERTICK_CLEAR:
@@ -115,33 +115,48 @@ static laddertick_answer walk_file(const char *name, bytes input, int out, size_
     }
 }
 
-/* A file that lacks its last print line may have been sent by halves. */
-static void warn_of_pending(const char *name, size_t n)
+/* All labels. Gives the status to exit with. */
+static int explain_all(const char *name, bytes input)
 {
-    put_name(name);
-    fprintf(stderr, "%zu %s behind the last print line: no label\n", n, n == 1 ? "element" : "elements");
+    size_t count = 0, printed = 0;
+    laddertick_answer last = walk_file(name, input, laddertick_start(), 0, &count);
+    if (last.kind == LADDERTICK_REFUSED)
+        return refuse(name, input, last.number, last.place);
+    if (count == 0)
+        puts("no labels");
+    else
+        walk_file(name, input, laddertick_start(), 1, &printed);
+    /* What goes to standard output is out before the warning. */
+    int status = flushed(0);
+    warn_of_pending(name, last.next.pending);
+    return status;
+}
+
+/* One label, by its number from 1. */
+static int explain_one(const char *name, bytes input, size_t number)
+{
+    labels l = index_file(name, input);
+    size_t before = number - 1;
+    int status = 0;
+    if (l.said.number != 0)
+        status = refuse(name, input, l.said.number, l.said.place);
+    else if (number > l.len)
+        status = refuse_number(name, input, number, l.len);
+    else
+        walk_file(name, cut_at(input, l.at[before]), walk_from(l.at[before]), 1, &before);
+    free(l.at);
+    return flushed(status);
 }
 
 int main(int argc, char **argv)
 {
-    if (argc != 2) {
-        fputs("usage: explain FILE\n", stderr);
+    if (argc != 2 && argc != 3) {
+        fputs("usage: explain FILE [N]\n", stderr);
         return 2;
     }
+    size_t number = argc == 3 ? label_number(argv[2]) : 0;
     bytes input = read_file(argv[1]);
-    size_t labels;
-    laddertick_answer last = walk_file(argv[1], input, 0, &labels);
-    int status = 0;
-    if (last.kind == LADDERTICK_REFUSED)
-        status = refuse(argv[1], input, last.number, last.place);
-    else if (labels == 0)
-        puts("no labels");
-    else
-        walk_file(argv[1], input, 1, &labels);
-    /* What goes to standard output is out before the warning. */
-    status = flushed(status);
-    if (last.kind == LADDERTICK_END && last.next.pending != 0)
-        warn_of_pending(argv[1], last.next.pending);
+    int status = number == 0 ? explain_all(argv[1], input) : explain_one(argv[1], input, number);
     free(input.at);
     return status;
 }

@@ -126,12 +126,12 @@ static int flushed(int status)
 static const char *const MESSAGES[] = {LADDERTICK_MESSAGES(ENTRY)};
 #undef ENTRY
 
-/* The refusal in words, with the number of its line, its place as the library gives it and the line's text. Gives the status to exit with. */
+/* The refusal in words; where it is that of a line, with the number of the line, its place as the library gives it and the line's text. Gives the status to exit with. */
 static int refuse(const char *name, bytes input, unsigned number, size_t place)
 {
     put_name(name);
     fprintf(stderr, "refused (%u): %s\n", number, MESSAGES[number]);
-    if (number < LADDERTICK_INPUT_TOO_LONG || number > LADDERTICK_STATE_OUTSIDE) {
+    if (number < LADDERTICK_INPUT_TOO_LONG || (number > LADDERTICK_STATE_OUTSIDE && number < LADDERTICK_TOO_MANY_LABELS)) {
         size_t line = 1, end = place;
         for (size_t i = 0; i < place; i++)
             line += input.at[i] == '\n';

@@ -2,6 +2,8 @@
 //!
 //!     bench times                     a table of nanoseconds a byte, and the targets
 //!     bench one FUNCTION KIND SIZE    one call of one function, for valgrind
+//!     bench index                     the index and opening alone
+//!     bench open first|last SIZE      one label opened, the first or the last of a file, for valgrind
 
 mod inputs;
 mod library;
@@ -31,8 +33,9 @@ const PARSE: Function = Function { name: "parse", call: |input, _| oracle::parse
 const NORMALISE: Function = Function { name: "normalise", call: |input, out| library::normalise(input, out) };
 const FORMAT: Function = Function { name: "format_epl", call: |input, _| oracle::normalised(input).len() };
 const CHECK: Function = Function { name: "check", call: |input, _| library::check(input) };
+const INDEX: Function = Function { name: "index", call: |input, out| library::index(input, out) };
 const COPY: Function = Function { name: "copy", call: |input, out| copy(input, out) };
-const FUNCTIONS: [&Function; 6] = [&WALK, &PARSE, &NORMALISE, &FORMAT, &CHECK, &COPY];
+const FUNCTIONS: [&Function; 7] = [&WALK, &PARSE, &NORMALISE, &FORMAT, &CHECK, &INDEX, &COPY];
 
 fn copy(input: &[u8], out: &mut [u8]) -> usize {
     out[..input.len()].copy_from_slice(input);
@@ -42,8 +45,8 @@ fn copy(input: &[u8], out: &mut [u8]) -> usize {
 /// One call, under a name that valgrind is told to count.
 #[inline(never)]
 #[no_mangle]
-fn measured(function: &Function, input: &[u8], out: &mut [u8]) -> usize {
-    (function.call)(black_box(input), black_box(out))
+fn measured(call: &dyn Fn(&[u8], &mut [u8]) -> usize, input: &[u8], out: &mut [u8]) -> usize {
+    call(black_box(input), black_box(out))
 }
 
 /// Room for any normalised text.
@@ -94,7 +97,7 @@ impl<'a> Job<'a> {
             }
             let start = Instant::now();
             for (file, out) in self.files.chunks(self.size).zip(self.out.chunks_mut(room(self.size))) {
-                black_box(measured(self.function, file, out));
+                black_box(measured(&self.function.call, file, out));
             }
             taken += start.elapsed();
         }
@@ -211,6 +214,72 @@ fn graphics() -> &'static Kind {
     KINDS.iter().find(|kind| kind.name == "graphics").unwrap()
 }
 
+/// The index beside the walk. Gives the ratio on 16 MiB of labels.
+fn indexed() -> f64 {
+    println!("\nThe label index beside the walk, nanoseconds a byte\n");
+    println!("| input | size | index | walk | times the walk |");
+    println!("|---|---|---|---|---|");
+    let mut on_labels = f64::NAN;
+    for kind in KINDS.iter().filter(|kind| !kind.name.starts_with("refused")) {
+        for size in SIZES {
+            let input = made(kind, size);
+            let [index, walk] = times_of(1, [Job::new(&INDEX, &input), Job::new(&WALK, &input)]);
+            println!("| {} | {} | {index:.3} | {walk:.3} | {:.2} |", kind.name, size_name(size), index / walk);
+            if kind.name == "labels" {
+                on_labels = index / walk;
+            }
+        }
+    }
+    on_labels
+}
+
+/// A file of one label again and again, its entries, and a number.
+struct Opened {
+    file: Memory,
+    entries: Vec<raw::Entry>,
+    number: usize,
+}
+
+impl Opened {
+    fn new(size: usize, last: bool) -> Opened {
+        let file = Memory::holding(&inputs::same_label(size));
+        let entries = library::entries(&file);
+        let number = if last { entries.len() - 1 } else { 0 };
+        Opened { file, entries, number }
+    }
+
+    fn open(&self, out: &mut [u8]) -> usize {
+        measured(&|input, out| library::open(input, &self.entries, self.number, out), &self.file, out)
+    }
+
+    /// Nanoseconds of one call, the best of many runs of many.
+    fn nanoseconds(&self, out: &mut [u8]) -> f64 {
+        const CALLS: u32 = 1_000;
+        let run = || {
+            let start = Instant::now();
+            for _ in 0..CALLS {
+                black_box(self.open(out));
+            }
+            start.elapsed()
+        };
+        std::iter::repeat_with(run).take(200).min().unwrap().as_nanos() as f64 / CALLS as f64
+    }
+}
+
+/// One label opened, from the beginning of a short file and from the end of a long one. Gives how many times as long the second takes.
+fn opening() -> f64 {
+    let mut out = vec![0; 4 * KIB];
+    println!("\nOne label opened, nanoseconds a call\n");
+    println!("| label | open |");
+    println!("|---|---|");
+    let [first, last] = [(64 * KIB, false), (16 * MIB, true)].map(|(size, last)| {
+        let time = Opened::new(size, last).nanoseconds(&mut out);
+        println!("| the {} of {} | {time:.0} |", if last { "last" } else { "first" }, size_name(size));
+        time
+    });
+    last / first
+}
+
 fn times() {
     let walks = table(&WALK, &PARSE);
     let texts = table(&NORMALISE, &FORMAT);
@@ -235,6 +304,7 @@ fn times() {
         println!("| {} | {check:.3} | {walk:.3} | {:.1} |", kind.name, check / walk);
         strict = strict.max(check / walk);
     }
+    let (index, open) = (indexed(), opening());
     let growths = grown();
     println!("\nTargets\n");
     let least = |rows: &[(f64, f64)]| rows.iter().map(|(mine, theirs)| theirs / mine).fold(f64::MAX, f64::min);
@@ -246,24 +316,26 @@ fn times() {
     target("normalise on every input, times as fast as format_epl, at least 2", texts.iter().map(|rows| least(rows)).fold(f64::MAX, f64::min), |r| r >= 2.0);
     target("normalise on graphics, times the time of a copy, at most 3", beside, |r| r <= 3.0);
     target("check on every input, times the time of the walk, at most 2.5", strict, |r| r <= 2.5);
+    target("index of 16 MiB of labels, times the time of the walk, at most 1.3", index, |r| r <= 1.3);
+    target("open of the last label of 16 MiB, times that of the first of 64 KiB, at most 2", open, |r| r <= 2.0);
     for (reading, most) in READINGS.iter().zip(growths) {
         target(&format!("16 MiB, times the time of 1 MiB, {reading}, at most 18"), most, |r| r <= 18.0);
     }
 }
 
 fn target(words: &str, figure: f64, met: impl Fn(f64) -> bool) {
-    println!("- {words}: {figure:.1}, {}", if met(figure) { "met" } else { "missed" });
+    println!("- {words}: {figure:.2}, {}", if met(figure) { "met" } else { "missed" });
 }
 
 fn one(function: &str, kind: &str, size: &str) {
     let function = FUNCTIONS.iter().find(|f| f.name == function).unwrap_or_else(|| usage());
     let kind = KINDS.iter().find(|k| k.name == kind).unwrap_or_else(|| usage());
     let size: usize = size.parse().unwrap_or_else(|_| usage());
-    black_box(measured(function, &made(kind, size), &mut Memory::new(room(size))));
+    black_box(measured(&function.call, &made(kind, size), &mut Memory::new(room(size))));
 }
 
 fn usage<T>() -> T {
-    eprintln!("usage: bench times | bench one FUNCTION KIND SIZE");
+    eprintln!("usage: bench times | bench index | bench one FUNCTION KIND SIZE | bench open first|last SIZE");
     exit(2)
 }
 
@@ -273,6 +345,8 @@ fn main() {
         ["times"] => times(),
         ["kinds"] => KINDS.iter().for_each(|kind| println!("{}", kind.name)),
         ["one", function, kind, size] => one(function, kind, size),
+        ["open", which, size] => drop(black_box(Opened::new(size.parse().unwrap_or_else(|_| usage()), which == "last").open(&mut vec![0; 4 * KIB]))),
+        ["index"] => drop((indexed(), opening())),
         _ => usage(),
     }
 }

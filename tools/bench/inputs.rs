@@ -31,20 +31,28 @@ fn filled(size: usize, part: impl Fn(usize) -> Vec<u8>) -> Vec<u8> {
     input
 }
 
-/// Jar and bag labels as a driver sends them: settings, a reference, texts, lines, a bar code.
+/// Jar and bag labels as a driver sends them.
 fn labels(size: usize) -> Vec<u8> {
-    filled(size, |i| {
-        let (from, to) = (i % 900, i % 900 + 1);
-        format!(
-            "N\r\nq609\r\nQ406,24\r\nS2\r\nD8\r\nR{},8\r\nA0,0,0,4,1,1,N,\"KARST-07 BAG {i:04}\"\r\n\
-             A0,30,0,2,1,1,N,\"{from}.30 - {to}.55 m\"\r\nA0,52,0,2,1,1,N,\"Grey siltstone, calcite veins\"\r\n\
-             A0,74,0,3,1,2,R,\"Bohrung Süd 3, Kiste {}\"\r\nLO0,92,380,2\r\nX0,140,3,560,330\r\n\
-             B0,100,0,1,2,4,60,B,\"K07-{i:06}\"\r\nA260,104,0,3,1,1,N,\"HCL\"\r\nP1\r\n",
-            i % 16,
-            i % 40,
-        )
-        .into_bytes()
-    })
+    filled(size, label)
+}
+
+/// One label again and again, and nothing behind the last.
+pub fn same_label(size: usize) -> Vec<u8> {
+    label(0).repeat(size / label(0).len())
+}
+
+/// Settings, a reference, texts, lines, a bar code.
+fn label(i: usize) -> Vec<u8> {
+    let (from, to) = (i % 900, i % 900 + 1);
+    format!(
+        "N\r\nq609\r\nQ406,24\r\nS2\r\nD8\r\nR{},8\r\nA0,0,0,4,1,1,N,\"KARST-07 BAG {i:04}\"\r\n\
+         A0,30,0,2,1,1,N,\"{from}.30 - {to}.55 m\"\r\nA0,52,0,2,1,1,N,\"Grey siltstone, calcite veins\"\r\n\
+         A0,74,0,3,1,2,R,\"Bohrung Süd 3, Kiste {}\"\r\nLO0,92,380,2\r\nX0,140,3,560,330\r\n\
+         B0,100,0,1,2,4,60,B,\"K07-{i:06}\"\r\nA260,104,0,3,1,1,N,\"HCL\"\r\nP1\r\n",
+        i % 16,
+        i % 40,
+    )
+    .into_bytes()
 }
 
 fn bar_codes(size: usize) -> Vec<u8> {

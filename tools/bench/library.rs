@@ -29,3 +29,26 @@ pub fn check(input: &[u8]) -> usize {
     let checked = raw::check(input);
     checked.number as usize + checked.place
 }
+
+/// The label index, its entries in the room for an answer. Gives how many there are.
+pub fn index(input: &[u8], out: &mut [u8]) -> usize {
+    // An entry has any numbers in its fields.
+    let entries = unsafe { out.align_to_mut::<raw::Entry>().1 };
+    let written = raw::index(input, entries);
+    assert!(written.number == 0 || written.place + 8 > input.len());
+    written.place
+}
+
+/// The entries of a file.
+pub fn entries(input: &[u8]) -> Vec<raw::Entry> {
+    let mut entries = vec![raw::Entry::default(); raw::index(input, &mut []).place];
+    assert_eq!(raw::index(input, &mut entries).number, 0);
+    entries
+}
+
+/// One label's lines.
+pub fn open(input: &[u8], entries: &[raw::Entry], number: usize, out: &mut [u8]) -> usize {
+    let written = raw::open(input, entries, number, out);
+    assert_eq!(written.number, 0);
+    written.place
+}

@@ -1,12 +1,24 @@
 //! One input put to the library, with room to spare for the answer and with none, and held against what it should answer.
 
+use crate::index;
 use crate::raw::{self, Written};
 use crate::steps;
 use crate::strict;
 use oracle::{fields, Answer};
 
 /// A function that writes.
-type Function = fn(&[u8], &mut [u8]) -> Written;
+type Function<'a> = &'a dyn Fn(&[u8], &mut [u8]) -> Written;
+
+/// What a comparison that found no difference has seen.
+#[derive(Default)]
+pub struct Seen {
+    /// The number of the profile's verdict.
+    pub verdict: u32,
+    /// Labels that were indexed, and opened from their entries.
+    pub labels: usize,
+    /// Entries that no index made, by what opening answered: a label, 16, 21, another refusal.
+    pub made: [usize; 4],
+}
 
 /// Bytes on either side of what is lent.
 const MARGIN: usize = 32;
@@ -31,7 +43,7 @@ impl Lent {
     }
 
     /// The input where it is lent, and other bytes around it than at the last call.
-    fn place(&mut self, input: &[u8]) -> &[u8] {
+    pub fn place(&mut self, input: &[u8]) -> &[u8] {
         self.calls += 1;
         let around = AROUND[self.calls % AROUND.len()];
         self.input.clear();
@@ -58,29 +70,32 @@ impl Lent {
 
 /// Holds the library's answers against the Rust's: the listing's, the walk's and the normalised text's. The fields of frames that the Rust has not are left
 /// out before its listing is compared, and are then held to the definition. The normalised text of an accepted input is listed alike, and normalising it
-/// again changes nothing. The strict reading is held beside the plain one. An error says in words what is wrong; else the number of the profile's verdict is given.
-pub fn compare(lent: &mut Lent, input: &[u8], rust: &Answer) -> Result<u32, String> {
+/// again changes nothing. The strict reading is held beside the plain one, and the index of labels beside the units and the listing. An error says in words what is wrong.
+pub fn compare(lent: &mut Lent, input: &[u8], rust: &Answer) -> Result<Seen, String> {
     as_the_rust(lent, input, rust)?;
     let expected = &fields::told(input, rust);
-    listed(lent, raw::list, input, expected)?;
+    listed(lent, &raw::list, input, expected)?;
+    let mut seen = Seen::default();
+    index::indexed(lent, input, expected, &mut seen).map_err(|wrong| format!("indexing, {wrong}"))?;
     let checked = strict::checked(lent.place(input), expected).map_err(|wrong| format!("checking, {wrong}"))?;
+    seen.verdict = checked.number;
     if matches!(checked.number, 17 | 18) {
-        refused(lent, raw::strict_list, input, checked.number as u8, checked.place).map_err(|wrong| format!("listing strictly, {wrong}"))?;
+        refused(lent, &raw::strict_list, input, checked.number as u8, checked.place).map_err(|wrong| format!("listing strictly, {wrong}"))?;
     } else {
-        listed(lent, raw::strict_list, input, expected).map_err(|wrong| format!("listing strictly, {wrong}"))?;
+        listed(lent, &raw::strict_list, input, expected).map_err(|wrong| format!("listing strictly, {wrong}"))?;
     }
     steps::walked(lent.place(input), expected).map_err(|wrong| format!("walking, {wrong}"))?;
     if input.len() > oracle::LIMIT {
-        refused(lent, raw::normalise, input, 14, 0)?;
-        return Ok(checked.number);
+        refused(lent, &raw::normalise, input, 14, 0)?;
+        return Ok(seen);
     }
     let text = oracle::normalised(input);
-    written(lent, raw::normalise, input, &text).map_err(|wrong| format!("normalising, {wrong}"))?;
+    written(lent, &raw::normalise, input, &text).map_err(|wrong| format!("normalising, {wrong}"))?;
     if text.len() <= oracle::LIMIT && matches!(expected, Answer::Labels(_)) {
-        listed(lent, raw::list, &text, expected).map_err(|wrong| format!("the normalised text, {wrong}"))?;
-        written(lent, raw::normalise, &text, &text).map_err(|wrong| format!("normalising again, {wrong}"))?;
+        listed(lent, &raw::list, &text, expected).map_err(|wrong| format!("the normalised text, {wrong}"))?;
+        written(lent, &raw::normalise, &text, &text).map_err(|wrong| format!("normalising again, {wrong}"))?;
     }
-    Ok(checked.number)
+    Ok(seen)
 }
 
 /// The listing is the Rust's but for the fields that the Rust has not.
@@ -89,7 +104,7 @@ fn as_the_rust(lent: &mut Lent, input: &[u8], rust: &Answer) -> Result<(), Strin
         return Ok(());
     };
     let listing = rust.lines();
-    let got = lent.call(raw::list, input, 2 * listing.len());
+    let got = lent.call(&raw::list, input, 2 * listing.len());
     let ours = String::from_utf8_lossy(lent.written(got.place.min(2 * listing.len())));
     if got.number == 0 && fields::without(&ours) == listing {
         return Ok(());
@@ -106,7 +121,7 @@ fn listed(lent: &mut Lent, function: Function, input: &[u8], expected: &Answer) 
 }
 
 /// A text: with room to spare, with exactly enough, one byte less and none.
-fn written(lent: &mut Lent, function: Function, input: &[u8], text: &[u8]) -> Result<(), String> {
+pub fn written(lent: &mut Lent, function: Function, input: &[u8], text: &[u8]) -> Result<(), String> {
     let n = text.len();
     for room in [n + 40, n] {
         answers(lent, function, input, room, Written { number: 0, place: n }, text)?;
@@ -120,7 +135,7 @@ fn written(lent: &mut Lent, function: Function, input: &[u8], text: &[u8]) -> Re
 }
 
 /// A refusal: with more room than any answer to a short input needs, and with none.
-fn refused(lent: &mut Lent, function: Function, input: &[u8], number: u8, place: usize) -> Result<(), String> {
+pub fn refused(lent: &mut Lent, function: Function, input: &[u8], number: u8, place: usize) -> Result<(), String> {
     for room in [16 * input.len().min(65_536) + 40, 0] {
         answers(lent, function, input, room, Written { number: number as u32, place }, b"")?;
     }
@@ -128,7 +143,7 @@ fn refused(lent: &mut Lent, function: Function, input: &[u8], number: u8, place:
 }
 
 /// The library answers as expected, writes the text, and changes nothing else.
-fn answers(lent: &mut Lent, function: Function, input: &[u8], room: usize, expected: Written, text: &[u8]) -> Result<(), String> {
+pub fn answers(lent: &mut Lent, function: Function, input: &[u8], room: usize, expected: Written, text: &[u8]) -> Result<(), String> {
     let got = lent.call(function, input, room);
     let n = text.len();
     let wrong = if got != expected {

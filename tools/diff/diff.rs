@@ -2,6 +2,7 @@
 //! come first, all of them, then a few inputs around the length limit, then as many millions of made ones as asked for.
 
 mod compare;
+mod index;
 #[path = "../../bindings/rust/src/raw.rs"]
 mod raw;
 mod short;
@@ -25,10 +26,10 @@ const PATIENCE: Duration = Duration::from_secs(5);
 const LONGEST_REPORT: usize = 10_000;
 
 fn main() {
-    let mut words = std::env::args().skip(1).map(|word| word.parse().expect("a number"));
-    let millions: u64 = words.next().expect("how many millions");
-    let run = Run { seed: words.next().unwrap_or(1), ..Run::default() };
-    let pieces = short::SETTINGS.len() + 1 + millions as usize * 1_000_000 / PIECE;
+    let mut words = std::env::args().skip(1);
+    let millions: f64 = words.next().and_then(|word| word.parse().ok()).expect("how many millions");
+    let run = Run { seed: words.next().map_or(1, |word| word.parse().expect("a number")), ..Run::default() };
+    let pieces = short::SETTINGS.len() + 1 + (millions * 1e6) as usize / PIECE;
     std::thread::scope(|scope| {
         let threads: Vec<_> = (0..THREADS).map(|_| scope.spawn(|| run.work(pieces))).collect();
         while !threads.iter().all(|t| t.is_finished()) {
@@ -45,6 +46,8 @@ fn main() {
     eprintln!("with elements pending at the end: {}; of these with labels before them: {}", count(&run.pending[0]), count(&run.pending[1]));
     let by_profile = [0, 17, 18].map(|n| count(&run.checked[n]));
     eprintln!("by the well-site profile: accepted {}, refused 17 {}, 18 {}, the others as plainly", by_profile[0], by_profile[1], by_profile[2]);
+    let opened = [0, 1, 2, 3].map(|i| count(&run.made[i]));
+    eprintln!("labels indexed and opened: {}; entries that no index made: {} opened, 16 {}, 21 {}, other refusals {}", count(&run.labels), opened[0], opened[1], opened[2], opened[3]);
     let (cases, differences, accepted) = (count(&run.cases), count(&run.differences), count(&run.accepted));
     let refused: usize = run.refused.iter().map(count).sum();
     let [position, size, kind, maxicode] = [0, 1, 2, 3].map(|i| count(&run.panics[i]));
@@ -76,6 +79,10 @@ struct Run {
     refused: [AtomicUsize; 20],
     /// By the number of the profile's verdict, 0 where it accepts.
     checked: [AtomicUsize; 20],
+    /// Labels that were indexed and opened.
+    labels: AtomicUsize,
+    /// Entries that no index made, by what opening answered: a label, 16, 21, another refusal.
+    made: [AtomicUsize; 4],
     /// By cause: 13; 19; 7, 8 or 9; MaxiCode.
     panics: [AtomicUsize; 4],
 }
@@ -123,8 +130,10 @@ impl Run {
         }
         self.cases.fetch_add(1, Relaxed);
         let compared = compare(lent, input, &expected);
-        if let Ok(number) = compared {
-            self.checked[number as usize].fetch_add(1, Relaxed);
+        if let Ok(seen) = &compared {
+            self.checked[seen.verdict as usize].fetch_add(1, Relaxed);
+            self.labels.fetch_add(seen.labels, Relaxed);
+            self.made.iter().zip(seen.made).for_each(|(counter, n)| drop(counter.fetch_add(n, Relaxed)));
         }
         if let Err(wrong) = compared {
             if self.differences.fetch_add(1, Relaxed) < SHOWN {

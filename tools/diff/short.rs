@@ -58,6 +58,7 @@ pub const SETTINGS: &[Setting] = &[
     bytes(BOX, b" \t\x0c\r\x0bG", b"GW1,2,1,1,x"),
     tokens(b"", [b"GW,,,,", b"GW0,0,1,1,", b"\n", b"P", b"N", b"LO1,2,3,4"], b""),
     tokens(BOX, [b"GW1,2,2,1,", b"\n", b"R5", b",", b"N\n", b"P1"], BOX),
+    tokens(b"", [b"P\n", b"N\n", b"R5,6\n", b"R7\n", b"LO,,,\n", b"GW,,,,"], b"P3"),
     bytes(b"", b"R1,\n-P", b""),
     bytes(BOX, b"R1,\n-P", BOX),
     bytes(BOX, b"RN2 ,\n", BOX),

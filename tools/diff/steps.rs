@@ -64,6 +64,27 @@ pub fn walked(input: &[u8], expected: &Answer) -> Result<(), String> {
     }
 }
 
+/// The lines of the first label that the steps from a state print; or the refusal that they reach, or nothing at the end.
+pub fn first_label(input: &[u8], mut walk: Walk) -> Result<String, Option<(u8, usize)>> {
+    let mut pending = Vec::new();
+    loop {
+        let answer = raw::step(input, walk);
+        match answer.kind {
+            0 => {
+                let mut listing = String::new();
+                put_line(&mut listing, &[&[0][..], &number(answer.count as i32), &number(answer.sets), &number(answer.copies)].concat());
+                pending.iter().for_each(|frame: &Vec<u8>| put_line(&mut listing, frame));
+                return Ok(listing);
+            }
+            17 => pending.clear(),
+            18 => return Err(None),
+            255 => return Err(Some((answer.number, answer.place))),
+            _ => pending.push(frame(input, &mut { answer.element })),
+        }
+        walk = answer.next;
+    }
+}
+
 /// The frame of an element (docs/FRAMES.md). The fields that it has are taken out of e, so that those of other kinds
 /// stay behind; a kind that is none takes nothing but its head.
 fn frame(input: &[u8], e: &mut Element) -> Vec<u8> {

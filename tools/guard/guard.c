@@ -5,7 +5,8 @@
  *
  * CASES is a file of inputs (each its length, 4 bytes with the most significant first, and its bytes: crates/replay/stdin). Each input, as it stands and in
  * ROUNDS damaged copies, goes to every entry point: once with its first byte behind a guard page, once with its last byte before one, and not writable.
- * Buffers likewise, with room to spare, with just enough and with one byte less; and NULL of length 0 for each. Calls run on a stack of 64 KiB between guard pages.
+ * Buffers likewise, with room to spare, with just enough and with one byte less; lists of entries with one to spare, just enough and one less; and NULL of length 0 for
+ * each. Calls run on a stack of 64 KiB between guard pages.
  * Held as well: a refused call leaves the buffer as it came, bytes past the written length keep their values, and both placements are answered alike.
  */
 #define _GNU_SOURCE
@@ -98,12 +99,16 @@ static laddertick_walk walk;
 static laddertick_answer answer;
 static laddertick_written written;
 static laddertick_checked checked;
+static laddertick_entry *entries;
+static size_t entries_len, label;
 
 static void do_step(void) { answer = laddertick_step(input, input_len, walk); }
 static void do_data(void) { written = laddertick_data(input, input_len, start, len, out, out_len); }
 static void do_list(void) { written = laddertick_list(input, input_len, out, out_len); }
 static void do_strict_list(void) { written = laddertick_strict_list(input, input_len, out, out_len); }
 static void do_check(void) { checked = laddertick_check(input, input_len); }
+static void do_index(void) { written = laddertick_index(input, input_len, entries, entries_len); }
+static void do_open(void) { written = laddertick_open(input, input_len, entries, entries_len, label, out, out_len); }
 static void do_normalise(void) { written = laddertick_normalise(input, input_len, out, out_len); }
 
 static void call(const char *name, void (*function)(void))
@@ -128,9 +133,12 @@ static size_t deepest(void)
 
 /* ---- one input ---- */
 
-static region inputs, outs;
+static region inputs, outs, lists;
 static size_t calls;
 static uint64_t seed;
+
+/* Places and counts that no walk reaches. */
+static const size_t ODD[] = {0, 1, 2, SIZE_MAX, SIZE_MAX - 1, (size_t)1 << 63, 16777216, 16777217};
 
 static uint64_t next(void)
 {
@@ -210,10 +218,11 @@ static int same(laddertick_walk a, laddertick_walk b)
     return a.place == b.place && a.x == b.x && a.y == b.y && a.pending == b.pending;
 }
 
-/* A whole walk, the data of each element on the way; then steps from states that no walk need reach. Gives a sum over the answers. */
-static uint64_t walks(int last)
+/* A whole walk, the data of each element on the way. Gives a sum over the answers, and counts the labels. */
+static uint64_t walks(int last, size_t *labels)
 {
     uint64_t sum = 0;
+    *labels = 0;
     walk = laddertick_start();
     do {
         call("laddertick_step", do_step);
@@ -229,6 +238,7 @@ static uint64_t walks(int last)
             wrong("data outside the input");
         if (len > 0)
             writes("laddertick_data", do_data, last);
+        *labels += answer.kind == LADDERTICK_PRINT;
         walk = answer.next;
     } while (answer.kind != LADDERTICK_END && answer.kind != LADDERTICK_REFUSED);
     return sum;
@@ -250,9 +260,101 @@ static uint64_t checks(int last, laddertick_written plain)
     return checked.number + 31 * (checked.place + 31 * (checked.field + 31 * (uint64_t)checked.held));
 }
 
+/* ---- the label index ---- */
+
+/* Entries beside a list that are marked too. */
+enum { BESIDE = 8 };
+
+/* A list of n entries at either end of its region. It is marked, and so is what lies beside it. */
+static void lend_list(size_t n, int last)
+{
+    size_t most = (n + BESIDE) * sizeof *entries;
+    mprotect(lists.at, lists.len, PROT_READ | PROT_WRITE);
+    memset(placed(lists, most, last), 0x5a, most);
+    entries = (laddertick_entry *)placed(lists, n * sizeof *entries, last);
+    entries_len = n;
+}
+
+/* The index into a list of n entries: `due` is what it should answer, and all but the entries of an answer keep their marks. */
+static void indexes(size_t n, int last, laddertick_written due)
+{
+    lend_list(n, last);
+    call("laddertick_index", do_index);
+    calls++;
+    if (written.number != due.number || written.place != due.place)
+        wrong("not the answer of the walk, or 20 not as it should be told");
+    size_t kept = due.number == 0 ? due.place * sizeof *entries : 0, most = (n + BESIDE) * sizeof *entries;
+    uint8_t *list = (uint8_t *)entries, *marked = placed(lists, most, last);
+    if (unmarked(marked, (size_t)(list - marked)) + unmarked(list + kept, (size_t)(marked + most - (list + kept))) != 0)
+        wrong("an entry was changed that is not the answer's");
+}
+
+/* Opening label i, in buffers of every size, the list being read and not written; `due` is the number that it is refused by, or 0. */
+static laddertick_written opens(size_t i, int last, unsigned due, size_t place)
+{
+    label = i;
+    mprotect(lists.at, lists.len, PROT_READ);
+    laddertick_written w = writes("laddertick_open", do_open, last);
+    if (due != 0 && (w.number != due || w.place != place))
+        wrong("not refused as it should be");
+    return w;
+}
+
+/* The index, behind the plain listing `plain` of so many labels, and every label opened: their lines together are the listing's, but for frame fe. */
+static uint64_t indexed(int last, laddertick_written plain, size_t labels)
+{
+    uint64_t sum = 0;
+    laddertick_written all = {0, labels};
+    if (plain.number != 0)
+        all = plain;
+    indexes(labels + 1, last, all);
+    if (plain.number == 0 && labels > 0)
+        indexes(labels - 1, last, (laddertick_written){LADDERTICK_TOO_MANY_LABELS, labels});
+    entries = NULL;
+    entries_len = 0;
+    call("laddertick_index", do_index);
+    calls++;
+    if (written.number != (all.number == 0 && labels > 0 ? LADDERTICK_TOO_MANY_LABELS : all.number) || written.place != all.place)
+        wrong("NULL of length 0 is not answered as an empty list");
+    opens(labels, last, LADDERTICK_NO_SUCH_LABEL, labels);
+    indexes(labels, last, all);
+    if (plain.number != 0)
+        return 0;
+    for (size_t i = 0; i < labels; i++) {
+        laddertick_written w = opens(i, last, 0, 0);
+        if (w.number != 0)
+            wrong("an entry of the index is refused");
+        if (i > 0 && entries[i].first < entries[i - 1].last)
+            wrong("an entry that begins before the one before it ends");
+        sum += w.place;
+    }
+    opens(labels, last, LADDERTICK_NO_SUCH_LABEL, labels);
+    opens(SIZE_MAX, last, LADDERTICK_NO_SUCH_LABEL, SIZE_MAX);
+    if (plain.place != sum && plain.place != sum + 11)
+        wrong("the labels opened are not the listing");
+    return sum;
+}
+
+/* Entries that no index made, one alone in its list. */
+static void made(int last)
+{
+    for (int k = 0; k < 4; k++) {
+        uint64_t r = next();
+        lend_list(1, last);
+        size_t a = r % 4 == 0 ? ODD[r / 8 % 8] : r / 8 % (input_len + 2), b = r / 4096 % 4 == 0 ? ODD[r / 65536 % 8] : r / 65536 % (input_len + 2);
+        laddertick_entry e = {a < b || r % 5 == 0 ? a : b, a < b || r % 5 == 0 ? b : a, ODD[r / 1024 % 8], (int32_t)next(), (int32_t)next()};
+        entries[0] = e;
+        int outside = e.last > input_len || e.last < e.first;
+        laddertick_written w = opens(0, last, outside ? LADDERTICK_STATE_OUTSIDE : 0, e.last);
+        if (!outside && w.number == LADDERTICK_STATE_OUTSIDE)
+            wrong("16 is not told as it should be");
+        if (memcmp(&entries[0], &e, sizeof e) != 0)
+            wrong("the entry is changed");
+    }
+}
+
 static void states(void)
 {
-    static const size_t ODD[] = {0, 1, 2, SIZE_MAX, SIZE_MAX - 1, (size_t)1 << 63, 16777216, 16777217};
     for (int k = 0; k < 8; k++) {
         uint64_t r = next();
         walk.place = r % 4 == 0 ? ODD[r / 8 % 8] : r / 8 % (input_len + 2);
@@ -275,6 +377,7 @@ static void states(void)
 static void hold(const uint8_t *bytes, size_t n)
 {
     uint64_t sums[2];
+    size_t labels;
     for (int last = 0; last < 2; last++) {
         mprotect(inputs.at, inputs.len, PROT_READ | PROT_WRITE);
         memset(inputs.at, '"', inputs.len);
@@ -282,11 +385,13 @@ static void hold(const uint8_t *bytes, size_t n)
         mprotect(inputs.at, inputs.len, PROT_READ);
         input = placed(inputs, n, last);
         input_len = n;
-        sums[last] = walks(last);
+        sums[last] = walks(last, &labels);
         laddertick_written listing = writes("laddertick_list", do_list, last), text = writes("laddertick_normalise", do_normalise, last);
         sums[last] = sums[last] * 31 + listing.number + listing.place;
         sums[last] = sums[last] * 31 + text.number + text.place;
         sums[last] = sums[last] * 31 + checks(last, listing);
+        sums[last] = sums[last] * 31 + indexed(last, listing, labels);
+        made(last);
     }
     doing = "both placements";
     if (sums[0] != sums[1])
@@ -299,8 +404,12 @@ static void hold_null(void)
 {
     input = NULL;
     input_len = 0;
-    walks(0);
-    checks(0, writes("laddertick_list", do_list, 0));
+    size_t labels;
+    walks(0, &labels);
+    laddertick_written listing = writes("laddertick_list", do_list, 0);
+    checks(0, listing);
+    indexed(0, listing, labels);
+    made(0);
     writes("laddertick_normalise", do_normalise, 0);
     states();
 }
@@ -346,6 +455,7 @@ int main(int argc, char **argv)
     static uint8_t bytes[65536], copy[65536];
     inputs = map(sizeof bytes);
     outs = map(16 * sizeof bytes);
+    lists = map(sizeof bytes * sizeof *entries / 4); /* an element and its print line have more than four bytes */
     stack = map(STACK - PAGE);
     memset(stack.at, 0xa5, stack.len);
     /* A fault on the small stack itself must still be told. */

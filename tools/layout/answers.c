@@ -97,6 +97,13 @@ static void checked(const char *what, laddertick_checked got, laddertick_checked
 #undef F
 }
 
+static void entry(const char *what, laddertick_entry got, laddertick_entry due)
+{
+#define F(field) number(what, #field, (double)got.field, (double)due.field);
+    FIELDS_laddertick_entry(F)
+#undef F
+}
+
 static void bytes(const char *what, const void *got, const void *due, size_t n)
 {
     if (memcmp(got, due, n) != 0) {
@@ -172,6 +179,37 @@ static void checks(void)
     }
 }
 
+/* The index of a file with two labels, behind print lines that print nothing and a reference that changes in the label; and one label opened. */
+static void indexes(void)
+{
+    static const char LISTING[] = "00000000020000000200000003\n02000000650000006600000007000000080000000701\n02000000670000006700000003000000030000000300\n";
+    static const laddertick_entry MARK = {91, 92, 93, 94, 95};
+    laddertick_entry list[3] = {MARK, MARK, MARK}, made[2];
+    uint8_t out[200];
+    input = (const uint8_t *)"R5,6\nP\nR10,20\nLO1,2,4,3\nLE1,2,7,8\nLO3,3,3,3\nP1\nR100,100\nLW1,2,7,8\nLO3,3,3,3\nP2,3\nLO,,,\n";
+    input_len = strlen((const char *)input);
+    written("index into 0 entries", laddertick_index(input, input_len, NULL, 0), (laddertick_written){20, 2});
+    written("index into 1 entry", laddertick_index(input, input_len, list, 1), (laddertick_written){20, 2});
+    entry("an entry at 20", list[0], MARK);
+    written("index of a refused file", laddertick_index((const uint8_t *)"LO,,,\nP\n X1", 11, list, 3), (laddertick_written){6, 8});
+    entry("an entry of a refused file", list[0], MARK);
+    written("index into 3 entries", laddertick_index(input, input_len, list, 3), (laddertick_written){0, 2});
+    entry("the first entry", list[0], (laddertick_entry){7, 47, 3, 5, 6});
+    entry("the second entry", list[1], (laddertick_entry){47, 81, 2, 10, 20});
+    entry("the third entry", list[2], MARK);
+    written("open into 116 bytes", laddertick_open(input, input_len, list, 2, 1, out, 116), (laddertick_written){15, 117});
+    written("open into 117 bytes", laddertick_open(input, input_len, list, 2, 1, out, 117), (laddertick_written){0, 117});
+    bytes("open", out, LISTING, 117);
+    written("open past the list", laddertick_open(input, input_len, list, 2, 2, out, 117), (laddertick_written){21, 2});
+    /* entries that no index made, with the numbers of their places all different */
+    made[0] = (laddertick_entry){84, 83, 1, 0, 0};
+    made[1] = (laddertick_entry){81, 87, 1, 0, 0};
+    written("open an entry that ends before its start", laddertick_open(input, input_len, made, 2, 0, out, 117), (laddertick_written){16, 83});
+    written("open an entry that yields no label", laddertick_open(input, input_len, made, 2, 1, out, 117), (laddertick_written){21, 1});
+    made[1].last = 99;
+    written("open an entry that ends past the end", laddertick_open(input, input_len, made, 2, 1, out, 117), (laddertick_written){16, 99});
+}
+
 /* NULL of length 0, for an input and for a buffer: an empty file, and no room. */
 static void null(void)
 {
@@ -184,12 +222,16 @@ static void null(void)
         written("list NULL", laddertick_list(NULL, 0, to, (size_t)k), (laddertick_written){0, 0});
         written("normalise NULL", laddertick_normalise(NULL, 0, to, (size_t)k), (laddertick_written){0, 0});
         written("data of NULL", laddertick_data(NULL, 0, 7, 8, to, (size_t)k), (laddertick_written){0, 0});
+        written("open in NULL", laddertick_open(NULL, 0, NULL, 0, 7, to, (size_t)k), (laddertick_written){21, 7});
+        written("open of NULL", laddertick_open(NULL, 0, &(laddertick_entry){0, 0, 1, 2, 3}, 1, 0, to, (size_t)k), (laddertick_written){21, 0});
     }
+    written("index NULL", laddertick_index(NULL, 0, NULL, 0), (laddertick_written){0, 0});
     checked("check NULL", laddertick_check(NULL, 0), (laddertick_checked){.number = 0});
     input = (const uint8_t *)"LO5,6,30,4";
     written("list into NULL", laddertick_list(input, 10, NULL, 0), (laddertick_written){15, 11});
     written("normalise into NULL", laddertick_normalise(input, 10, NULL, 0), (laddertick_written){15, 11});
     written("data into NULL", laddertick_data(input, 10, 3, 4, NULL, 0), (laddertick_written){15, 4});
+    written("open into NULL", laddertick_open((const uint8_t *)"LO,,,\nP", 7, &(laddertick_entry){0, 7, 1, 2, 3}, 1, 0, NULL, 0), (laddertick_written){15, 72});
     written("a refusal into NULL", laddertick_list((const uint8_t *)"X1", 2, NULL, 0), (laddertick_written){6, 0});
 }
 
@@ -198,6 +240,7 @@ int main(void)
     steps();
     writes();
     checks();
+    indexes();
     null();
     printf("layout: %zu answers of a step, every field of each: %s\n", looked_at, wrong ? "some are wrong" : "all as 01 says");
     return wrong;

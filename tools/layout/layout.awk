@@ -4,11 +4,11 @@ BEGIN {
   size["u8"] = 1; size["i32"] = 4; size["u32"] = 4; size["usize"] = 8; size["f64"] = 8
   if (to == "c") {
     host["FlatAnswer"] = "laddertick_answer"; host["Element"] = "laddertick_element"; host["WalkState"] = "laddertick_walk"; host["Written"] = "laddertick_written"
-    host["Checked"] = "laddertick_checked"
+    host["Checked"] = "laddertick_checked"; host["LabelEntry"] = "laddertick_entry"
     type["u8"] = "uint8_t"; type["i32"] = "int32_t"; type["u32"] = "uint32_t"; type["usize"] = "size_t"; type["f64"] = "double"
   } else {
     host["FlatAnswer"] = "Answer"; host["Element"] = "Element"; host["WalkState"] = "Walk"; host["Written"] = "Written"
-    host["Checked"] = "Checked"
+    host["Checked"] = "Checked"; host["LabelEntry"] = "Entry"
     for (t in size) type[t] = t
   }
   for (s in host) type[s] = host[s]

@@ -66,6 +66,30 @@ define %written @laddertick_strict_list(ptr %input, i64 %len, ptr %out, i64 %out
   ret %written %r
 }
 
+define %written @laddertick_index(ptr %input, i64 %len, ptr %entries, i64 %entries_len) {
+  %s = alloca %slice, align 8
+  %e = alloca %slice, align 8
+  %w = alloca %written, align 8
+  call void @slice_of(ptr %s, ptr %input, i64 %len)
+  call void @slice_of(ptr %e, ptr %entries, i64 %entries_len)
+  call void @inner_index(ptr %w, ptr %s, ptr %e)
+  %r = load %written, ptr %w, align 8
+  ret %written %r
+}
+
+define %written @laddertick_open(ptr %input, i64 %len, ptr %entries, i64 %entries_len, i64 %number, ptr %out, i64 %out_len) {
+  %s = alloca %slice, align 8
+  %e = alloca %slice, align 8
+  %o = alloca %slice, align 8
+  %w = alloca %written, align 8
+  call void @slice_of(ptr %s, ptr %input, i64 %len)
+  call void @slice_of(ptr %e, ptr %entries, i64 %entries_len)
+  call void @slice_of(ptr %o, ptr %out, i64 %out_len)
+  call void @inner_open(ptr %w, ptr %s, ptr %e, i64 %number, ptr %o)
+  %r = load %written, ptr %w, align 8
+  ret %written %r
+}
+
 define internal void @slice_of(ptr %s, ptr %bytes, i64 %len) alwaysinline {
   store ptr %bytes, ptr %s, align 8
   %l = getelementptr i8, ptr %s, i64 8

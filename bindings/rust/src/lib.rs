@@ -14,11 +14,14 @@
 //! # Ok::<(), laddertick::Refused>(())
 //! ```
 //!
+//! [`Index`] opens single labels of a long file: it is read whole once, and then each label by its own bytes.
+//!
 //! The work is done by a static library in which every function is proved to meet its contract, to return, and to touch only what it was lent
 //! (docs/CONTRACTS.md of the repository). This crate is the thin safe side of it: it allocates, the library does not.
 
 mod check;
 mod element;
+mod index;
 mod raw;
 mod refused;
 mod walk;
@@ -26,6 +29,7 @@ mod write;
 
 pub use check::{check, Field, Held, Unfit};
 pub use element::{BarMode, Bars, Colour, Element, Kind, QrLevel, Scale};
+pub use index::{Entry, Index};
 pub use refused::Refused;
 pub use walk::{labels, steps, Label, Labels, Print, Step, Steps, Unprinted};
 use write::write;

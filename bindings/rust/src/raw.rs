@@ -61,7 +61,7 @@ pub struct Answer {
     pub element: Element,
 }
 
-/// Number 0: `place` bytes are written. Else a refusal.
+/// Number 0: `place` bytes are written, or the index has so many labels. Else a refusal.
 #[repr(C)]
 #[derive(Clone, Copy, Debug, PartialEq, Eq)]
 pub struct Written {
@@ -79,6 +79,17 @@ pub struct Checked {
     pub place: usize,
 }
 
+/// Where a label stands in a file, how many elements it has, and the reference point at its first place.
+#[repr(C)]
+#[derive(Clone, Copy, Debug, Default, PartialEq, Eq)]
+pub struct Entry {
+    pub first: usize,
+    pub last: usize,
+    pub count: usize,
+    pub x: i32,
+    pub y: i32,
+}
+
 extern "C" {
     fn laddertick_start() -> Walk;
     fn laddertick_step(input: *const u8, input_len: usize, walk: Walk) -> Answer;
@@ -87,6 +98,8 @@ extern "C" {
     fn laddertick_normalise(input: *const u8, input_len: usize, out: *mut u8, out_len: usize) -> Written;
     fn laddertick_check(input: *const u8, input_len: usize) -> Checked;
     fn laddertick_strict_list(input: *const u8, input_len: usize, out: *mut u8, out_len: usize) -> Written;
+    fn laddertick_index(input: *const u8, input_len: usize, entries: *mut Entry, entries_len: usize) -> Written;
+    fn laddertick_open(input: *const u8, input_len: usize, entries: *const Entry, entries_len: usize, number: usize, out: *mut u8, out_len: usize) -> Written;
 }
 
 // Safe, all of them: the pointers and lengths are those of slices, which nobody writes meanwhile and which, one of them being `&mut`, do not overlap. An empty
@@ -118,4 +131,12 @@ pub fn check(input: &[u8]) -> Checked {
 
 pub fn strict_list(input: &[u8], out: &mut [u8]) -> Written {
     unsafe { laddertick_strict_list(input.as_ptr(), input.len(), out.as_mut_ptr(), out.len()) }
+}
+
+pub fn index(input: &[u8], entries: &mut [Entry]) -> Written {
+    unsafe { laddertick_index(input.as_ptr(), input.len(), entries.as_mut_ptr(), entries.len()) }
+}
+
+pub fn open(input: &[u8], entries: &[Entry], number: usize, out: &mut [u8]) -> Written {
+    unsafe { laddertick_open(input.as_ptr(), input.len(), entries.as_ptr(), entries.len(), number, out.as_mut_ptr(), out.len()) }
 }

@@ -6,14 +6,16 @@ const MESSAGES: &str = include_str!("../../../include/laddertick_messages.h");
 /// A refusal: its number and its place.
 #[derive(Clone, Copy, Debug, PartialEq, Eq)]
 pub struct Refused {
-    /// 1 to 9, 13 and 19, and by the well-site profile alone 17 and 18: the author of the label; 10 to 12: the sender of a graphic; 14 to 16: the caller.
+    /// 1 to 9, 13 and 19, and by the well-site profile alone 17 and 18: the author of the label; 10 to 12: the sender of a graphic; 14 to 16, 20 and 21: the caller.
     pub number: u8,
-    /// The first byte of the refused line, its blanks included, counted from 0; for 15 the length that is needed.
+    /// The first byte of the refused line, its blanks included, counted from 0; for 15 the length that is needed, for 20 how many labels there are, for 21 the number that
+    /// no label has.
     pub place: usize,
 }
 
 impl Refused {
     pub(crate) const OUTPUT_TOO_SHORT: u8 = 15;
+    pub(crate) const TOO_MANY_LABELS: u8 = 20;
 
     /// The place is that of a line.
     fn is_of_a_line(&self) -> bool {

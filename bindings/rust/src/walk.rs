@@ -48,7 +48,11 @@ pub struct Steps<'a> {
 
 /// The steps of a file.
 pub fn steps(input: &[u8]) -> Steps<'_> {
-    Steps { input, walk: raw::start(), over: false, unprinted: None }
+    steps_from(input, raw::start())
+}
+
+pub(crate) fn steps_from(input: &[u8], walk: Walk) -> Steps<'_> {
+    Steps { input, walk, over: false, unprinted: None }
 }
 
 impl Steps<'_> {
@@ -102,7 +106,11 @@ pub struct Labels<'a> {
 
 /// The labels of a file.
 pub fn labels(input: &[u8]) -> Labels<'_> {
-    Labels { steps: steps(input) }
+    labels_from(steps(input))
+}
+
+pub(crate) fn labels_from(steps: Steps<'_>) -> Labels<'_> {
+    Labels { steps }
 }
 
 impl Labels<'_> {

@@ -1,7 +1,7 @@
 //! Answers that the scope document gives, through the safe crate.
 
 use laddertick::{
-    check, labels, list, normalise, steps, strict_list, BarMode, Bars, Colour, Element, Field, Held, Kind, Label, QrLevel, Refused, Scale, Step, Unfit, Unprinted, LONGEST,
+    check, labels, list, normalise, steps, strict_list, BarMode, Bars, Colour, Element, Field, Held, Index, Kind, Label, QrLevel, Refused, Scale, Step, Unfit, Unprinted, LONGEST,
 };
 
 /// The one element of a file with one label, and nothing behind it.
@@ -142,8 +142,13 @@ fn words_of_c() {
         assert!(printed.lines().any(|said| said == line), "{line}");
     }
     assert_eq!(meaning(15), "the buffer is too short");
-    assert_eq!(meaning(16), "a walk whose place is past the end, or whose pending count is above its place");
-    assert_eq!(meaning(20), "unknown");
+    assert_eq!(
+        meaning(16),
+        "a walk whose place is past the end or whose pending count is above its place, or an entry whose last place is past the end or before its first"
+    );
+    assert_eq!(meaning(20), "more labels than the list has entries");
+    assert_eq!(meaning(21), "no such label");
+    assert_eq!(meaning(22), "unknown");
 }
 
 #[test]
@@ -184,4 +189,43 @@ fn the_well_site_profile() {
     }
     let said = check(b"N\nR1,\n").unwrap_err().to_string();
     assert_eq!(said, "refused (17): a field holds no value, which the well-site profile asks for, at offset 2 (from 0), field 2: empty");
+}
+
+/// The entries are those of docs/SCOPE.md ("The label index"): behind print lines that printed nothing; `N` and `R` start none; the reference is that at the first byte.
+#[test]
+fn the_label_index() {
+    let file = b"R5,6\nP\nR10,20\nLO1,2,4,3\nN\nLE1,2,7,8\nP1\nLW1,2,7,8\nLO3,3,3,3\nP2,3\nP\nLO,,,\n";
+    let index = Index::of(file).unwrap();
+    let told: Vec<_> = index.iter().map(|entry| (entry.number(), entry.bytes(), entry.elements(), entry.reference())).collect();
+    assert_eq!(told, [(0, 7..39, 1, (5, 6)), (1, 39..64, 2, (0, 0))]);
+    assert_eq!((index.len(), index.is_empty()), (2, false));
+    assert!(index.get(2).is_none());
+    assert_eq!(index.list(2).unwrap_err(), Refused { number: 21, place: 2 });
+    assert_eq!(index.list(2).unwrap_err().to_string(), "refused (21): no such label");
+    // Each label is what the whole file has for it, its data too where it stands.
+    let all: Vec<Label> = labels(file).collect::<Result<_, _>>().unwrap();
+    let opened: Vec<Label> = index.iter().map(|entry| entry.label()).collect();
+    assert_eq!(opened, all);
+    let lines: String = (0..index.len()).map(|number| index.list(number).unwrap()).collect();
+    assert_eq!(list(file).unwrap(), lines + "fe00000001\n");
+    assert_eq!(index.iter().rev().map(|entry| entry.number()).collect::<Vec<_>>(), [1, 0]);
+}
+
+#[test]
+fn many_labels_and_none() {
+    // More labels than the first guess has room for, the shortest that there are.
+    let file = b"X,,,,\nP\n".repeat(1_000);
+    let index = Index::of(&file).unwrap();
+    assert_eq!(index.len(), 1_000);
+    assert_eq!(index.get(999).unwrap().bytes(), 7_992..8_000);
+    let jars: String = (0..40).map(|i| format!("N\nA0,0,0,2,1,1,N,\"Jar {i} of 40\"\nP{i}\n")).collect();
+    let index = Index::of(jars.as_bytes()).unwrap();
+    let label = index.get(17).unwrap().label();
+    assert_eq!((label.elements[0].text().as_deref(), label.sets), (Some("Jar 17 of 40"), 17));
+    let data = label.elements[0].data;
+    assert_eq!(data.as_ptr(), jars[jars.find("Jar 17").unwrap()..].as_ptr());
+    assert!(Index::of(b"").unwrap().is_empty());
+    assert!(Index::of(b"LO1,1,1,1\n").unwrap().is_empty());
+    assert_eq!(Index::of(b"LO1,1,1,1\nP\nX1\n").unwrap_err(), Refused { number: 6, place: 12 });
+    assert_eq!(Index::of(&vec![b'\n'; LONGEST + 1]).unwrap_err(), Refused { number: 14, place: 0 });
 }

@@ -7,7 +7,7 @@ use Rattle.elements.specs.declared.refusal.Refusal.the-variants.{Barcode
 use Rattle.elements.specs.declared.refusal.Refusal.the-variants.{GraphicFields, GraphicNegative, GraphicTruncated}
 use Rattle.elements.specs.declared.refusal.Refusal.the-variants.{OutOfRange, InputTooLong, OutputTooShort}
 use Rattle.elements.specs.declared.refusal.Refusal.the-variants.{StateOutside, NoValue, OutsideProfile}
-use Rattle.elements.specs.declared.refusal.Refusal.the-variants.{SizeOutside}
+use Rattle.elements.specs.declared.refusal.Refusal.the-variants.{SizeOutside, TooManyLabels, NoSuchLabel}
 
 abbrev pub numberOf : Refusal → ℕ
 -- 1 `A`, 2 `B`, 3 `b`, 4 `LO`/`LW`/`LE`, 5 `LS`, 6 `X` with too few fields
@@ -37,3 +37,6 @@ numberOf NoValue = 17
 numberOf OutsideProfile = 18
 -- 19 a difference, its absolute value or a font product outside 32 bits
 numberOf SizeOutside = 19
+-- 20 more labels than entries; 21 an entry number past the last label, or an entry that yields none
+numberOf TooManyLabels = 20
+numberOf NoSuchLabel = 21

@@ -34,6 +34,9 @@ pub enum Refusal {
     // with them before SizeOutside a step of the static library takes ten instructions more.
     NoValue,
     OutsideProfile,
+    // The host: more labels than entries, an entry number that has no label.
+    TooManyLabels,
+    NoSuchLabel,
 }
 
 impl Refusal {
@@ -61,6 +64,8 @@ impl Refusal {
             Refusal::SizeOutside => 19,
             Refusal::NoValue => 17,
             Refusal::OutsideProfile => 18,
+            Refusal::TooManyLabels => 20,
+            Refusal::NoSuchLabel => 21,
         }
     }
 }

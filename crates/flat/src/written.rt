@@ -1,10 +1,12 @@
-// The answer of a call that fills a lent buffer, for hosts that know numbers and structs only.
+// The answer of a call that fills a lent buffer or list, for hosts that know numbers and structs only.
 ghost use mathlib.Core.Path.{_≡_};
 ghost use Rattle.elements.specs.Given.{givenOf};
-ghost use Rattle.flat.specs.Written.{givenFlat};
+ghost use Rattle.index.specs.Plan.{countedOf};
+ghost use Rattle.flat.specs.Written.{givenFlat, countedFlat};
 use elements::filled::Filled;
+use index::labels::Indexed;
 
-// number 0: the text is written, place is its length. Else a refusal: its number and its place.
+// number 0: the text or the list is written, place is its length. Else a refusal: its number and its place.
 #[repr(C)]
 pub struct Written {
     pub number: u32,
@@ -21,6 +23,22 @@ pub fn of_filled(a: Filled) -> Written
             place: n,
         },
         Filled::Refused(k, p) => Written {
+            number: k.number() as u32,
+            place: p,
+        },
+    }
+}
+
+// What the index answered.
+pub fn of_indexed(a: Indexed) -> Written
+    ensures { λ r. ⌜ countedFlat r ≡ countedOf a ⌝ }
+{
+    match a {
+        Indexed::Labels(n) => Written {
+            number: 0,
+            place: n,
+        },
+        Indexed::Refused(k, p) => Written {
             number: k.number() as u32,
             place: p,
         },

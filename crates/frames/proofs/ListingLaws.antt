@@ -1,26 +1,31 @@
--- The lengths of lines and labels (`length-lines`, `length-label`, `length-pending`), and the walk by the first step's
--- answer, as the loops over the steps want it (`begins`, `moved-by`, `text-by`). The room for a listing is in
+-- The lengths of lines and labels (`length-lines`, `length-label`, `length-pending`), and what a walk writes by the first
+-- step's answer, as the loops over the steps want it (`lead-by`, `after-by`, `text-by`). The room for a listing is in
 -- ListingRoomLaws. Assumes nothing.
 use mathlib.Core.Path.{_≡_, refl, sym, ap, _∙_}
 use mathlib.Core.List.{List, [], _∷_, _++_}
 use types.Run.{OneOf, miss}
 use denote.Enum.Declared.{tagOf, declared}
-use Prim.Native.Nat.{ℕ, zero, suc, _+_, _*_, _<_, _≤_}
+use Prim.Native.Nat.{ℕ, zero, suc, _+_, _*_, _<_, _≤_, min}
+use native.Mathlib.Nat.{min-eq-right, min-le-left}
 use native.Mathlib.Omega.{arith}
 use lib.ListN.{length, length-append}
 use Rattle.element_frames.specs.Frame.{be32, frameOf, labelFrame, pendingFrame}
 use Rattle.element_frames.specs.Hex.{lineOf}
+use Rattle.element_frames.proofs.FrameLaws.{frame-in}
 use Rattle.element_frames.proofs.HexLaws.{length-line, length-be32}
 use Rattle.whole.specs.Step.{step}
-use Rattle.whole.specs.Trace.{lead, after, trace, onAnswer, Goes}
-use Rattle.whole.proofs.TraceLaws.{final-after, labels-after, trace-by, goes-by}
+use Rattle.whole.specs.Trace.{lead, after}
+use Rattle.whole.proofs.TraceLaws.{final-after, labels-after}
 use Rattle.grammar.specs.Epl.{EplPrint, epl}
 use Rattle.grammar.proofs.FoundLaws.{reads}
 use Rattle.walk.specs.Steps.{EplTrace, stateOf, answerOf, traceOf}
+use Rattle.elements.specs.Given.{longest}
+use Rattle.elements.specs.declared.LabelElement.{LabelElement}
 use Rattle.elements.specs.declared.walk_state.WalkState.{WalkState}
 use Rattle.walk.specs.declared.answer.Answer.{Answer}
 use Rattle.walk.specs.declared.answer.Answer.the-variants.{Element, Clear, Print, End, Refused}
 use Rattle.walk.proofs.answer.Answer.{enum}
+use Rattle.walk.proofs.WalkLaws.{onStep, begins}
 use Rattle.frames.specs.Listing.{linesOf, labelLines, pendingLine, listingOf, pendingAt, frontFrames, textOf, textFrom}
 
 pub length-lines : (p : List (List ℕ)) (f : List ℕ) → length (linesOf (p ++ (f ∷ []))) ≡ length (linesOf p) + (2 * length f + 1)
@@ -50,27 +55,21 @@ pub length-pending-le : (n : ℕ) → length (pendingLine n) ≤ 11 * n
 length-pending-le zero = omega arith
 length-pending-le (suc n) = omega (arith, length-pending (suc n) (omega arith))
 
+-- the frames of an input that the walk takes are counted exactly
+pub frame-len-le : (s : List ℕ) (e : LabelElement) (n : ℕ) → n ≡ min 4294967295 (length (frameOf s e)) → n ≤ 4294967295
+frame-len-le s e n q = rw q (min-le-left 4294967295 (length (frameOf s e)))
+
+pub frame-len-is : (s : List ℕ) (e : LabelElement) → length s ≤ longest → min 4294967295 (length (frameOf s e)) ≡ length (frameOf s e)
+frame-len-is s e h = min-eq-right (omega (arith, frame-in s e))
+
 -- ---- at a step: r is the answer of the step from w, and q what it was matched with
--- the whole walk by the first step's answer
-abbrev pub onStep : List ℕ → Answer → EplTrace
-onStep s q = onAnswer epl (trace epl s) (answerOf q)
-
-abbrev pub Moved : List ℕ → WalkState → Answer → Type 0
-Moved s w q = Goes s (stateOf w) (answerOf q)
-
 module _ (s : List ℕ) (w : WalkState) (r q : Answer) (e : answerOf r ≡ step epl s (stateOf w)) (k : r ≡ q) where
-  pub begins : traceOf s w ≡ onStep s q
-  begins = trace-by epl reads s (stateOf w) (answerOf q) (ap answerOf (sym k) ∙ e)
-
-  pub moved-by : Moved s w q
-  moved-by = goes-by epl reads s (stateOf w) (answerOf q) (ap answerOf (sym k) ∙ e)
-
   pub lead-by : linesOf (frontFrames s w) ≡ linesOf (lead epl (List ℕ) frameOf s (onStep s q))
-  lead-by = ap (λ (t : EplTrace). linesOf (lead epl (List ℕ) frameOf s t)) begins
+  lead-by = ap (λ (t : EplTrace). linesOf (lead epl (List ℕ) frameOf s t)) (begins s w r q e k)
 
   module _ (start : WalkState) (h : after (traceOf s start) ≡ after (traceOf s w)) where
     pub after-by : after (traceOf s start) ≡ after (onStep s q)
-    after-by = h ∙ ap after begins
+    after-by = h ∙ ap after (begins s w r q e k)
 
     -- what is left from start, by what follows its elements
     pub text-by : textFrom s start ≡ textOf s (frontFrames s start) (after (onStep s q))

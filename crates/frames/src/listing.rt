@@ -36,7 +36,7 @@ fn put_elements(input: &[u8], out: &mut [u8], at: usize, st: WalkState) -> usize
 }
 
 // A label of what a print carries, whose elements begin at first.
-fn put_label(input: &[u8], out: &mut [u8], at: usize, p: Printed, first: WalkState) -> usize
+pub fn put_label(input: &[u8], out: &mut [u8], at: usize, p: Printed, first: WalkState) -> usize
     requires { ⌜ at + length (labelText (now input) p first) ≤ length (now out) ⌝ }
     ensures { λ r. ⌜ Put (now (out .exit)) (now (out .entry)) at (labelText (now (input .entry)) p first) r ⌝ }
 {

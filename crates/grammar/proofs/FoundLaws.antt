@@ -1,11 +1,12 @@
 -- `first` finds the unit that stands first, and nothing else: EPL fills `Reads` (`reads`). Its lines are in
--- FoundLineLaws, its blocks in FoundBlockLaws. Assumes nothing.
+-- FoundLineLaws, its blocks in FoundBlockLaws. Only a line that the end of input ends asks for something of what follows
+-- (`firm`). Assumes nothing.
 use mathlib.Core.Path.{_≡_, refl, sym, ap, _∙_}
 use mathlib.Core.Bool.{true, false}
 use mathlib.Core.List.{List, [], _∷_, _++_, append-assoc, append-nil}
 use Prim.Native.Nat.{ℕ}
 use native.Mathlib.Omega.{arith}
-use lib.ListN.{length-append}
+use lib.ListN.{length, length-append}
 use Rattle.text.specs.Blank.{trim}
 use Rattle.text.proofs.BoolLaws.{test}
 use Rattle.graphics.specs.declared.gw_span.Graphic.{Graphic}
@@ -13,7 +14,7 @@ use Rattle.graphics.specs.declared.gw_span.Graphic.the-variants as graphic
 use Rattle.graphics.specs.declared.gw_span.GwSpan.{GwSpan}
 use Rattle.graphics.specs.Block.{opensGw, gwSpan}
 use Rattle.whole.specs.Language.{First, none, bad, unit}
-use Rattle.whole.specs.Division.{Reads}
+use Rattle.whole.specs.Division.{Reads, Firm}
 use Rattle.whole.proofs.DivisionLaws.{bad≢unit, none≢unit, bad≢none, as-unit}
 use Rattle.grammar.specs.Units.{EplUnit, block, line, last, gw, bytes, Stands}
 use Rattle.grammar.specs.WellFormed.{wellFormed}
@@ -94,3 +95,8 @@ reads =
       sound = λ s u rest e. let f = found-sound s (gwSpan s) u rest refl e in (f .0 .0, f .1, f .0 .1);
       empty = λ s e. found-none s (gwSpan s) e;
     }
+
+pub firm : Firm epl
+firm (block bs h p) b rest st t = st
+firm (line l) b rest st t = st
+firm (last l) b rest st t = absurd (let z = ap length (st .2) in omega arith)

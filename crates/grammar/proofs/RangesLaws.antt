@@ -338,6 +338,15 @@ acts-line : (t : List ℕ) (r : LabelPosition) → wellFormed (trim t) ≡ true 
 unfolding wellFormed readLine
 acts-line t r w = acts-command (commandOf (trim t)) (leadOf t) (trim t) r w
 
+-- a well-formed line whose numbers are in range does what its command says
+pub line-acts : (t : List ℕ) (r : LabelPosition) → wellFormed (trim t) ≡ true → ((n : ℕ) → acts r (line t) ≡ outside n → ⊥) → Does (roleOf (line t)) r (refAfter r (line t)) (acts r (line t))
+line-acts t r w inside = by (acts-line t r w)
+  where
+    by : Acts (sumsOf r (line t)) (sizesOf (line t)) (roleOf (line t)) r (refAfter r (line t)) (acts r (line t)) → Does (roleOf (line t)) r (refAfter r (line t)) (acts r (line t))
+    by (all a b h) = h
+    by (sum a h) = absurd (inside 13 h)
+    by (size a b h) = absurd (inside 19 h)
+
 decided : (r : LabelPosition) (u : EplUnit) (rest : List ℕ) → Stands u rest → Acts (sumsOf r u) (sizesOf u) (roleOf u) r (refAfter r u) (acts r u)
 decided r (block bs h p) rest st =
     let x = number (h .x) in let y = number (h .y) in

@@ -10,7 +10,7 @@ use Rattle.text.proofs.BlankWhiteLaws.{code-points-trim}
 use Rattle.texts.proofs.FontLaws.{width-exact}
 use Rattle.elements.specs.declared.LabelElement.{LabelElement}
 use Rattle.elements.specs.declared.refusal.Refusal.{Refusal}
-use Rattle.elements.specs.declared.refusal.Refusal.the-variants.{TextFields, BarcodeFields, Barcode2dFields, LineFields, DiagonalFields, BoxFields, BarcodeType, Barcode2dType, QrData, GraphicFields, GraphicNegative, GraphicTruncated, OutOfRange, InputTooLong, OutputTooShort, StateOutside, NoValue, OutsideProfile, SizeOutside}
+use Rattle.elements.specs.declared.refusal.Refusal.the-variants.{TextFields, BarcodeFields, Barcode2dFields, LineFields, DiagonalFields, BoxFields, BarcodeType, Barcode2dType, QrData, GraphicFields, GraphicNegative, GraphicTruncated, OutOfRange, InputTooLong, OutputTooShort, StateOutside, NoValue, OutsideProfile, SizeOutside, TooManyLabels, NoSuchLabel}
 use Rattle.elements.specs.Refusals.{numberOf}
 use Rattle.elements.specs.Walk.{fresh}
 use Rattle.element_frames.specs.Frame.{be32, head, frameOf}
@@ -27,6 +27,7 @@ use Rattle.whole.specs.Claims.{Local, Walks}
 use Rattle.whole.proofs.DivisionLaws.{unique}
 use Rattle.whole.proofs.Whole.{whole}
 use Rattle.whole.proofs.Again.{normal-text}
+use Rattle.whole.proofs.Index.{indexed}
 use Rattle.whole.proofs.OutcomeLaws.{divides→listed}
 use Rattle.whole.proofs.TraceLaws.{reach-outcome}
 use Rattle.elements.proofs.GivenLaws.{within-short}
@@ -38,7 +39,7 @@ use Rattle.grammar.specs.LineFaults.{LineFault}
 use Rattle.grammar.specs.Ranges.{Beyond, Beyond13, InRange}
 use Rattle.grammar.specs.Divided.{Earliest}
 use Rattle.grammar.specs.Normal.{normal, blocks, normalised}
-use Rattle.grammar.proofs.FoundLaws.{reads}
+use Rattle.grammar.proofs.FoundLaws.{reads, firm}
 use Rattle.grammar.proofs.SpelledLaws.{spelled}
 use Rattle.grammar.proofs.RangesLaws.{in-range, position-outside, size-outside, outside-numbers, out-of-range}
 use Rattle.grammar.proofs.ShapesLaws.{shape}
@@ -65,17 +66,21 @@ use Rattle.strict.specs.Look.{endOf}
 use Rattle.strict.proofs.ListingLaws.{own-due}
 use Rattle.strict.proofs.VerdictLaws.{accepted-by, clean-listed, listed-accepted, refused-plain, objected-by}
 use Rattle.frames.proofs.ListingRoomLaws.{length-listing-le, never-short}
-use Rattle.laddertick.specs.Contracts.{Library, Gives}
+use Rattle.index.specs.declared.entry.LabelEntry.{LabelEntry}
+use Rattle.laddertick.specs.Contracts.{Library, Gives, DeniesList}
 use Rattle.laddertick.specs.Walked.{Walked, answered}
-use Rattle.laddertick.specs.Claims.{Divides, Normalising, Demand3, Profile, Claims, Theorem}
+use Rattle.laddertick.specs.Claims.{Divides, Normalising, Demand3, Profile, Indexing, Claims, Theorem}
 use Rattle.laddertick.proofs.ColouredLaws.{exclusive-or}
 use Rattle.laddertick.proofs.WalkedLaws.{walked, one-walked, answered-is}
 use Rattle.laddertick.proofs.ContractsLaws.{step-hands-back, list-keeps, normalise-keeps, strict-list-keeps, long-step, long-list, long-normalise, long-check, long-strict-list, outside, end-keeps, ended-again, data-inside, denies}
 use Rattle.laddertick.proofs.ContractsLaws as calls
+use Rattle.laddertick.proofs.IndexLaws as index-laws
+use Rattle.laddertick.proofs.IndexLaws.{index-keeps, open-keeps, long-index, long-open}
 use Rattle.laddertick.proofs.Proved.{proved}
 use Rattle.laddertick.proofs.Starred.{starred}
 use Rattle.laddertick.proofs.Distinct.{distinct}
 use Rattle.laddertick.proofs.Profiled.{profiled}
+use Rattle.laddertick.proofs.Indexed as tabled
 
 -- a frame looks only at the bytes of its own unit, wherever they stand
 local : Local epl (List ℕ) frameOf
@@ -194,6 +199,10 @@ module _ (library : Library) where
           by (accepted m) e = let d = divides m e .1 in absurd (divides-no-earliest (d .division) (d .range) x)
           by (refusal m q) e = let o = one-earliest (to-earliest m q e) x in λ i. refusal (o .0 i) (o .1 i)
 
+  -- the end of the walk by its trace is that of the steps
+  final-is : (s : List ℕ) (short : length s ≤ longest) → theWalk s short .final ≡ endOf s fresh
+  final-is s short = ending-same (theWalk s short .final) (endOf s fresh) _ _ (sym (reach-outcome epl reads (List ℕ) frameOf (theWalk s short .ends)))
+
   -- ---- the well-site profile
   profile-at : (s : List ℕ) → length s ≤ longest → Profile library s (checkedOf s)
   unfolding in-theory of-theory divided
@@ -213,7 +222,7 @@ module _ (library : Library) where
         );
     refused-alike = λ z o.
         let r = refused-plain s short z o in
-        (byCode s short .0, subst (Walked (library .step s) fresh (byCode s short .0)) (walk-final ∙ r .0) (byCode s short .1), r .1, r .2);
+        (byCode s short .0, subst (Walked (library .step s) fresh (byCode s short .0)) (final-is s short ∙ r .0) (byCode s short .1), r .1, r .2);
     objected = objected-by s short;
     denied = λ z l. denies (strictDueOf s) l (library .strict-list s l) (own-due s (checkedOf s .number) (lt-of-ne (checkedOf s .number) z) refl) (library .strictly-lists s l);
   }
@@ -223,15 +232,20 @@ module _ (library : Library) where
           let d : Divides s _ _ = record { units = x .0; division = x .1; range = x .2; found = refl; pending = refl } in
           listed-accepted s short _ _ (clean-listed s short _ _ (in-theory s _ _ d) (x .3))
 
-      -- the walk's end, by its trace
-      walk-final : theWalk s short .final ≡ endOf s fresh
-      walk-final = ending-same (theWalk s short .final) (endOf s fresh) _ _ (sym (reach-outcome epl reads (List ℕ) frameOf (theWalk s short .ends)))
-
   profile-of : (s : List ℕ) → length s ≤ longest → Profile library s (library .check s)
   profile-of s short = subst (Profile library s) (sym (library .checks s)) (profile-at s short)
 
+  -- ---- the label index
+  indexing-of : (s : List ℕ) (ls : List FramedLabel) (n : ℕ) → length s ≤ longest → Divides s ls n → Indexing library s ls
+  indexing-of s ls n short d =
+      index-laws.indexing library s ls n (sym (final-is s short) ∙ accepts s short ls n d .0)
+      (indexed epl reads firm (List ℕ) frameOf local s short origin ls n (in-theory s ls n d))
+
+  index-refused-of : (s : List ℕ) (xs : List Answer) (n p : ℕ) → length s ≤ longest → Walked (library .step s) fresh xs (refusal n p) → (l : List LabelEntry) → DeniesList n p l (library .index s l)
+  index-refused-of s xs n p short w l = index-laws.unfilled-by library s l n p (sym (final-is s short) ∙ sym (one-walked (library .step s) w (byCode s short .1) .1))
+
 -- ---- demand 1: the numbers of refusals
-numbered-of : (k : Refusal) → (1 ≤ numberOf k) × (numberOf k ≤ 19)
+numbered-of : (k : Refusal) → (1 ≤ numberOf k) × (numberOf k ≤ 21)
 numbered-of TextFields = (omega arith, omega arith)
 numbered-of BarcodeFields = (omega arith, omega arith)
 numbered-of Barcode2dFields = (omega arith, omega arith)
@@ -251,6 +265,8 @@ numbered-of StateOutside = (omega arith, omega arith)
 numbered-of NoValue = (omega arith, omega arith)
 numbered-of OutsideProfile = (omega arith, omega arith)
 numbered-of SizeOutside = (omega arith, omega arith)
+numbered-of TooManyLabels = (omega arith, omega arith)
+numbered-of NoSuchLabel = (omega arith, omega arith)
 
 -- ---- demand 2
 -- "All others begin kind, x, y"
@@ -270,11 +286,15 @@ claims library = record {
     list-keeps = list-keeps library;
     normalise-keeps = normalise-keeps library;
     strict-list-keeps = strict-list-keeps library;
+    index-keeps = index-keeps library;
+    open-keeps = open-keeps library;
     long-step = long-step library;
     long-list = long-list library;
     long-normalise = long-normalise library;
     long-check = long-check library;
     long-strict-list = long-strict-list library;
+    long-index = long-index library;
+    long-open = long-open library;
     outside = outside library;
     inside = calls.inside library;
     end-keeps = end-keeps library;
@@ -302,10 +322,14 @@ claims library = record {
     starred = starred;
     distinct = distinct;
     profiled = profiled;
+    tabled = tabled.indexed;
   };
   sized = calls.sized library;
   demand3 = demand-of library;
   profile = profile-of library;
+  index = indexing-of library;
+  index-refused = index-refused-of library;
+  opening = index-laws.opening library;
   block-bytes = block-bytes;
   line-blocks = line-blocks;
   flat = record { frame = flat-frame; next = flat-next; kind = flat-kind; clear = λ st. refl; end = λ st. refl };

@@ -97,11 +97,12 @@ step-inside s st w =
     (λ r u rest n x e. refused-line (outside-numbers r u rest x n e))
     s st w
 
--- a string over the limit lists nothing
+-- a string over the limit is refused at once, and lists nothing
+pub trace-long : (s : List ℕ) → longest < length s → trace epl s (stateOf fresh) ≡ refuses 14 0
+trace-long s h = trace-is epl reads s (stateOf fresh) ∙ ap (onAnswer epl (trace epl s)) (step-long epl s (stateOf fresh) h)
+
 outcome-long : (s : List ℕ) → longest < length s → outcomeOf s ≡ refusal-of 14 0
-outcome-long s h =
-    let t : trace epl s (stateOf fresh) ≡ refuses 14 0 = trace-is epl reads s (stateOf fresh) ∙ ap (onAnswer epl (trace epl s)) (step-long epl s (stateOf fresh) h) in
-    ap (λ (x : EplTrace). ending (final x) (labelsIn epl (List ℕ) frameOf s [] x)) t
+outcome-long s h = ap (λ (x : EplTrace). ending (final x) (labelsIn epl (List ℕ) frameOf s [] x)) (trace-long s h)
 
 -- ---- answers of the code
 end-is : (r : Answer) (w : WalkState) → answerOf r ≡ theory.ended (stateOf w) → r ≡ End w
@@ -116,7 +117,7 @@ end-is (Refused x k p) w h = absurd (let z : _≡_ {A = ℕ} 0 1 = cc in omega a
 
 -- ---- a call that fills the buffer l, by what is due to it
 module _ (d : Due) (l : List ℕ) (c : Filling) where
-  keeps : (k : Refusal) (p : ℕ) → c .answer ≡ filled.Refused k p → Fills (c .buffer) l d (givenOf (c .answer)) → c .buffer ≡ l
+  pub keeps : (k : Refusal) (p : ℕ) → c .answer ≡ filled.Refused k p → Fills (c .buffer) l d (givenOf (c .answer)) → c .buffer ≡ l
   keeps k p h f = fills-kept d (subst (λ (x : Filled). Fills (c .buffer) l d (givenOf x)) h f)
 
   pub denies : {n p : ℕ} → d ≡ denied n p → Fills (c .buffer) l d (givenOf (c .answer)) → Denies n p l c

@@ -2,6 +2,7 @@
 pub mod Starred
 pub mod Distinct
 pub mod Profiled
+pub mod Indexed
 -- `LE` beside `LO`
 pub mod ColouredLaws
 -- data lies inside; sizes and ratios are those of an element's fields
@@ -11,6 +12,8 @@ pub mod SizedLaws
 pub mod WalkedLaws
 -- demand 1, and what a call gives by what is due to it
 pub mod ContractsLaws
+-- the label index
+pub mod IndexLaws
 -- the code
 pub mod Proved
 -- the claims

@@ -1,10 +1,13 @@
 -- The code meets its contracts, by its own theorems (`proved`). Assumes nothing.
+use mathlib.Core.Path.{refl}
 use Rattle.elements.proofs.walk_state.start.Met as start
 use Rattle.walk.proofs.step.step.Met as step
 use Rattle.frames.proofs.listing.list.Met as list
 use Rattle.format.proofs.normalise.normalise.Met as normalise
 use Rattle.strict.proofs.check.check.Met as check
 use Rattle.strict.proofs.listing.strict_list.Met as strict-list
+use Rattle.index.proofs.labels.index.Met as index
+use Rattle.opening.proofs.label.open_label.Met as open-label
 use Rattle.laddertick.specs.Proved.{Proved}
 
 pub proved : Proved
@@ -15,10 +18,14 @@ proved = record {
   normalise = normalise.met;
   check = check.met;
   strict-list = strict-list.met;
+  index = index.met;
+  open-label = open-label.met;
   start-owes = λ κs a r z p. p;
   step-owes = λ κs a r z p. p;
   list-owes = λ κs a r z p. p;
   normalise-owes = λ κs a r z p. p;
   check-owes = λ κs a r z p. p;
   strict-list-owes = λ κs a r z p. p;
+  index-says = λ M 𝓤 H A mem run κs a g. (refl, λ r z. refl);
+  open-label-says = λ M 𝓤 H A mem run κs a g. (refl, λ r z. refl);
 }

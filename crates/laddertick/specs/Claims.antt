@@ -1,14 +1,15 @@
--- What is claimed of the entry points `step`, `list`, `normalise`, `check` and `strict_list`: of any functions that
--- meet their contracts (`Library`), as the code is proved to (`Proved`).
+-- What is claimed of the entry points `step`, `list`, `normalise`, `check`, `strict_list`, `index` and `open_label`: of
+-- any functions that meet their contracts (`Library`), as the code is proved to (`Proved`).
 -- Read first; each name leads to its definition. Quoted words are those of the three demands, or of 01.
 use mathlib.Core.Path.{_≡_}
 use mathlib.Core.Bool.{true, false}
 use mathlib.Core.List.{List, [], _∷_, _++_}
 use mathlib.Core.Logic.{_↔_, _⊎_}
+use mathlib.Core.Option.{some}
 use Prim.Native.Nat.{ℕ, _+_, _*_, _/_, _^_, _≤_, _<_}
 use lib.IntN.{ℤ, pos}
 use lib.Ieee.{binary64, ofInt}
-use lib.ListN.{length, take}
+use lib.ListN.{length, take, getElem?}
 use Rattle.text.specs.Blank.{dropBoth, isWhiteSpace, trim}
 use Rattle.text.specs.Utf8.{codePoints}
 use Rattle.numbers.specs.Number.{fieldOr}
@@ -34,6 +35,7 @@ use Rattle.whole.specs.Step.{State, element, cleared, ended, refused}
 use Rattle.whole.specs.Reach.{Final, accepted, refusal}
 use Rattle.whole.specs.Trace.{listed}
 use Rattle.whole.specs.Normal.{each}
+use Rattle.whole.specs.Index.{Along, EntryOf}
 use Rattle.text.specs.Ascii.{spelt}
 use Rattle.grammar.specs.WellFormed.{wellFormed, faultOf}
 use Rattle.grammar.specs.Units.{Header, EplUnit, block, line, last, Stands}
@@ -54,12 +56,15 @@ use Rattle.walk.specs.declared.answer.Answer.the-variants.{Element, End, Refuse
 use Rattle.walk.specs.Steps.{EplAnswer, stateOf, answerOf}
 use Rattle.flat.specs.Steps.{flatOf}
 use Rattle.flat.specs.Frames.{frameFlat, answerFrame, stateIn}
-use Rattle.frames.specs.Listing.{FramedLabel, listingOf, outcomeOf, dueOf}
+use Rattle.frames.specs.Listing.{FramedLabel, labelLines, listingOf, outcomeOf, dueOf}
 use Rattle.frames.specs.Printing.{printedOf, shownOf}
 use Rattle.profile.specs.Asks.{InProfile, Objected}
 use Rattle.profile.specs.Strict.{Own}
 use Rattle.strict.specs.declared.verdict.Checked.{Checked}
-use Rattle.laddertick.specs.Contracts.{Library, Denies, Gives}
+use Rattle.index.specs.declared.entry.LabelEntry.{LabelEntry}
+use Rattle.index.specs.declared.labels.Indexed.the-variants as indexed
+use Rattle.index.specs.Entries.{entriesOf}
+use Rattle.laddertick.specs.Contracts.{Library, Filling, Denies, Gives, DeniesList, GivesEntries}
 use Rattle.laddertick.specs.Proved.{Proved}
 use Rattle.laddertick.specs.Walked.{Walked, answered, Outside}
 use Rattle.laddertick.specs.Coloured.{Coloured}
@@ -68,6 +73,7 @@ use Rattle.laddertick.specs.Table.{Holds}
 use Rattle.laddertick.specs.Starred as starred
 use Rattle.laddertick.specs.Distinct as distinct
 use Rattle.laddertick.specs.Profiled as profiled
+use Rattle.laddertick.specs.Indexed as tabled
 
 -- "the string divides end to end into graphic blocks and command lines by 01's grammar with every position and size
 -- within signed 32 bits", and has these labels and n elements pending at its end
@@ -94,6 +100,11 @@ pub record Demand1 (library : Library) : Type 0 where
       → library .normalise s l .buffer ≡ l
   pub strict-list-keeps : (s l : List ℕ) (k : Refusal) (p : ℕ) → library .strict-list s l .answer ≡ filled.Refused k p
       → library .strict-list s l .buffer ≡ l
+  -- "The list is untouched by a refused file"
+  pub index-keeps : (s : List ℕ) (l : List LabelEntry) (k : Refusal) (p : ℕ)
+      → library .index s l .answer ≡ indexed.Refused k p → library .index s l .list ≡ l
+  pub open-keeps : (s : List ℕ) (es : List LabelEntry) (i : ℕ) (l : List ℕ) (k : Refusal) (p : ℕ)
+      → library .open-label s es i l .answer ≡ filled.Refused k p → library .open-label s es i l .buffer ≡ l
   -- "14 input over 16,777,216 bytes (place 0)", whatever the state and the buffer: "Order: 14, .."
   pub long-step : (s : List ℕ) (w : WalkState) → longest < length s
       → answerOf (library .step s w) ≡ refused 14 0 (stateOf w)
@@ -102,6 +113,9 @@ pub record Demand1 (library : Library) : Type 0 where
   pub long-check : (s : List ℕ) → longest < length s
       → library .check s ≡ record { number = 14; field = 0; held = 0; place = 0 }
   pub long-strict-list : (s l : List ℕ) → longest < length s → Denies 14 0 l (library .strict-list s l)
+  pub long-index : (s : List ℕ) (l : List LabelEntry) → longest < length s → DeniesList 14 0 l (library .index s l)
+  pub long-open : (s : List ℕ) (es : List LabelEntry) (i : ℕ) (l : List ℕ) → longest < length s
+      → Denies 14 0 l (library .open-label s es i l)
   -- ".. 16 ..": "walk state with its place past the end, or its pending count above its place (place: as given)",
   -- whatever the string says
   pub outside : (s : List ℕ) (w : WalkState) → length s ≤ longest → Outside s w
@@ -118,7 +132,7 @@ pub record Demand1 (library : Library) : Type 0 where
   -- the data that a step answers lies within the input, so that a host which reads it stays inside what it lent
   pub data-inside : (s : List ℕ) (w w′ : WalkState) (e : LabelElement) → library .step s w ≡ Element w′ e
       → In (length s) e
-  pub numbered : (k : Refusal) → (1 ≤ numberOf k) × (numberOf k ≤ 19)
+  pub numbered : (k : Refusal) → (1 ≤ numberOf k) × (numberOf k ≤ 21)
 
 -- demand 2: the command forms, from 01's words. The definitions that the code's readers are proved equal to
 -- (`commandOf`, `wellFormed`, `first`, `acts`, `fieldOr`) say the same
@@ -168,6 +182,8 @@ pub record Demand2 : Type 0 where
   pub distinct : Holds distinct.table
   -- and files under the well-site profile
   pub profiled : Holds profiled.table
+  -- and files with their index, and labels opened
+  pub tabled : Holds tabled.table
 
 -- the normalised text of a string that divides and has these labels and n elements pending at its end
 pub record Normalising (library : Library) (s : List ℕ) (ls : List FramedLabel) (n : ℕ) : Type 0 where
@@ -243,6 +259,39 @@ pub record Profile (library : Library) (s : List ℕ) (c : Checked) : Type 0 whe
   -- `strict_list` refuses as `check` does, whatever the buffer
   pub denied : (c .number ≡ 0 → ⊥) → (l : List ℕ) → Denies (c .number) (c .place) l (library .strict-list s l)
 
+-- 01, "The label index", of a string that divides and has these labels
+pub record Indexing (library : Library) (s : List ℕ) (ls : List FramedLabel) : Type 0 where
+  -- "one entry a label in print order", written where the list has room, and 20 gives their number where not
+  pub entries : List LabelEntry
+  pub gives : (l : List LabelEntry) → GivesEntries entries l (library .index s l)
+  pub as-many : length entries ≡ length ls
+  -- each lies within the string and has its label's count, and the walk over the string, cut at its last place, from its
+  -- first place and with its reference answers that label and nothing else
+  pub matched : Along (EntryOf epl (List ℕ) frameOf s) (entriesOf entries) ls
+  -- "Any label read from its entry alone gives the frames that the full listing has for it"
+  pub opened : (i : ℕ) (f : FramedLabel) → getElem? ls i ≡ some f → (l : List ℕ)
+      → Gives (labelLines f) l (library .open-label s entries i l)
+
+-- what opening does with a buffer l, by the labels that its walk answers and how this ends: "answers the first label,
+-- reading nothing past its print"; else the refusal of the lines read; 21 "last where the entry yields no label"
+abbrev pub Opens : List FramedLabel → Final → ℕ → List ℕ → Filling → Type 0
+Opens (f ∷ fs) z i l c = Gives (labelLines f) l c
+Opens [] (refusal n p) i l c = Denies n p l c
+Opens [] (accepted n) i l c = Denies 21 i l c
+
+-- 01, "The label index": opening the entry with the number i, whoever made the list, of a string within the limit
+pub record Opening (library : Library) (s : List ℕ) (es : List LabelEntry) (i : ℕ) : Type 0 where
+  -- "21 an entry number past the last label (place: the number)"
+  pub past : length es ≤ i → (l : List ℕ) → Denies 21 i l (library .open-label s es i l)
+  -- "An entry made otherwise gets 16 (place: its last place) if that is past the end or before its first"
+  pub outside : (e : LabelEntry) → getElem? es i ≡ some e → (length s < e .last) ⊎ (e .last < e .first)
+      → (l : List ℕ) → Denies 16 (e .last) l (library .open-label s es i l)
+  -- "it walks the file, cut at the last place, from the first place with the entry's reference and nothing pending"
+  pub walks : (e : LabelEntry) → getElem? es i ≡ some e → e .last ≤ length s → e .first ≤ e .last
+      → (xs : List Answer) (z : Final)
+      → Walked (library .step (take (e .last) s)) (record { place = e .first; reference = e .reference; pending = 0 }) xs z
+      → (l : List ℕ) → Opens (answered (take (e .last) s) [] xs) z i l (library .open-label s es i l)
+
 -- the flat answers of the static library, a : what `step` answers
 pub record Flat : Type 0 where
   -- an answer of `laddertick_step` rebuilt to 01's frame from its fields alone: an element's, a print's, a refusal's,
@@ -269,6 +318,12 @@ pub record Claims (library : Library) : Type 0 where
   pub demand3 : (s : List ℕ) → length s ≤ longest → Demand3 library s
   -- the well-site profile, "beside the plain" reading
   pub profile : (s : List ℕ) → length s ≤ longest → Profile library s (library .check s)
+  -- the label index: of a string that divides; of one that does not, the steps' refusal; and opening
+  pub index : (s : List ℕ) (ls : List FramedLabel) (n : ℕ) → length s ≤ longest → Divides s ls n
+      → Indexing library s ls
+  pub index-refused : (s : List ℕ) (xs : List Answer) (n p : ℕ) → length s ≤ longest
+      → Walked (library .step s) fresh xs (refusal n p) → (l : List LabelEntry) → DeniesList n p l (library .index s l)
+  pub opening : (s : List ℕ) (es : List LabelEntry) (i : ℕ) → length s ≤ longest → Opening library s es i
   -- a graphic block is its bytes, blanks, `GW`, four fields and payload; a line has none
   pub block-bytes : (bs p : List ℕ) (h : Header) → blocks (block bs h p)
       ≡ (bs ++ spelt "GW" (h .x ++ spelt "," (h .y ++ spelt "," (h .width ++ spelt "," (h .lines ++ spelt "," p))))) ∷ []

@@ -1,5 +1,5 @@
--- What the contracts of `step`, `list`, `normalise`, `check` and `strict_list` say, as types; and any functions that
--- meet them, over which the claims are made. That the code meets them is `Proved`.
+-- What the contracts of `step`, `list`, `normalise`, `check`, `strict_list`, `index` and `open_label` say, as types; and
+-- any functions that meet them, over which the claims are made. That the code meets them is `Proved`.
 use mathlib.Core.Path.{_≡_}
 use mathlib.Core.List.{List, _++_}
 use Prim.Native.Nat.{ℕ, _≤_, _<_}
@@ -16,6 +16,11 @@ use Rattle.format.specs.Normalise as normal
 use Rattle.strict.specs.declared.verdict.Checked.{Checked}
 use Rattle.strict.specs.Verdict.{checkedOf}
 use Rattle.strict.specs.Listing.{strictDueOf}
+use Rattle.index.specs.declared.entry.LabelEntry.{LabelEntry}
+use Rattle.index.specs.declared.labels.Indexed.{Indexed}
+use Rattle.index.specs.Plan as plan
+use Rattle.index.specs.Plan.{Indexes, fillingOf, countedOf, counted}
+use Rattle.opening.specs.Opened as opening
 
 -- `step` answers r to the input s and the state w
 abbrev pub Stepped : List ℕ → WalkState → Answer → Type 0
@@ -37,10 +42,23 @@ Judged s r = r ≡ checkedOf s
 abbrev pub StrictlyListed : List ℕ → List ℕ → List ℕ → Filled → Type 0
 StrictlyListed s l n r = Fills n l (strictDueOf s) (givenOf r)
 
+-- `index` answers r to the input s and the list l, which becomes n
+abbrev pub Entered : List ℕ → List LabelEntry → List LabelEntry → Indexed → Type 0
+Entered s l n r = Indexes n l (fillingOf s (length l)) (countedOf r)
+
+-- `open_label` answers r to the input s, the entries es, the number i and the buffer l, which becomes n
+abbrev pub Opened : List ℕ → List LabelEntry → ℕ → List ℕ → List ℕ → Filled → Type 0
+Opened s es i l n r = Fills n l (opening.dueOf s es i) (givenOf r)
+
 -- what a call that fills a lent buffer answers, and the buffer afterwards
 pub record Filling : Type 0 where
   pub answer : Filled
   pub buffer : List ℕ
+
+-- what a call that fills a lent list of entries answers, and the list afterwards
+pub record Entering : Type 0 where
+  pub answer : Indexed
+  pub list : List LabelEntry
 
 -- functions of the input and the state, or of the input and the buffer as it came, that meet these contracts
 pub record Library : Type 0 where
@@ -49,11 +67,16 @@ pub record Library : Type 0 where
   pub normalise : List ℕ → List ℕ → Filling
   pub check : List ℕ → Checked
   pub strict-list : List ℕ → List ℕ → Filling
+  pub index : List ℕ → List LabelEntry → Entering
+  pub open-label : List ℕ → List LabelEntry → ℕ → List ℕ → Filling
   pub steps : (s : List ℕ) (w : WalkState) → Stepped s w (step s w)
   pub lists : (s l : List ℕ) → Listed s l (list s l .buffer) (list s l .answer)
   pub normalises : (s l : List ℕ) → Normalised s l (normalise s l .buffer) (normalise s l .answer)
   pub checks : (s : List ℕ) → Judged s (check s)
   pub strictly-lists : (s l : List ℕ) → StrictlyListed s l (strict-list s l .buffer) (strict-list s l .answer)
+  pub indexes : (s : List ℕ) (l : List LabelEntry) → Entered s l (index s l .list) (index s l .answer)
+  pub opens : (s : List ℕ) (es : List LabelEntry) (i : ℕ) (l : List ℕ)
+      → Opened s es i l (open-label s es i l .buffer) (open-label s es i l .answer)
 
 -- ---- what a call did, from its answer and its buffer alone
 
@@ -70,3 +93,14 @@ Writes t l c = (givenOf (c .answer) ≡ bytes (length t)) × (c .buffer ≡ t ++
 pub record Gives (t l : List ℕ) (c : Filling) : Type 0 where
   pub room : length t ≤ length l → Writes t l c
   pub short : length l < length t → Denies 15 (length t) l c
+
+-- the same of a call that was lent the list l: number and place, and the list as it came
+abbrev pub DeniesList : ℕ → ℕ → List LabelEntry → Entering → Type 0
+DeniesList n p l c = (countedOf (c .answer) ≡ plan.refused n p) × (c .list ≡ l)
+
+-- the entries es stand from the start of l on and their number is given, "entries past the last label keep their
+-- values"; "20 more labels than entries (place: the label count)"
+pub record GivesEntries (es l : List LabelEntry) (c : Entering) : Type 0 where
+  pub room : length es ≤ length l
+      → (countedOf (c .answer) ≡ counted (length es)) × (c .list ≡ es ++ drop (length es) l)
+  pub short : length l < length es → DeniesList 20 (length es) l c

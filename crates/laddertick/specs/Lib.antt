@@ -14,3 +14,4 @@ pub mod Table
 pub mod Starred
 pub mod Distinct
 pub mod Profiled
+pub mod Indexed

@@ -1,6 +1,6 @@
 -- Tables of computed cases: inputs, each with all that the steps answer from the fresh state on, up to and including
 -- the end or the refusal, or with its normalised text, or with the lines that `list` writes, or with what the profile
--- says of it. `Holds`: every row does.
+-- says of it, or with its index. `Holds`: every row does.
 use mathlib.Core.Path.{_≡_}
 use mathlib.Core.List.{List, [], _∷_}
 use Prim.Native.Nat.{ℕ, zero, suc}
@@ -19,6 +19,9 @@ use Rattle.frames.specs.Listing.{dueOf}
 use Rattle.strict.specs.declared.verdict.Checked.{Checked}
 use Rattle.strict.specs.Verdict.{checkedOf}
 use Rattle.strict.specs.Listing.{strictDueOf}
+use Rattle.index.specs.declared.entry.LabelEntry.{LabelEntry}
+use Rattle.index.specs.Plan.{EplFilling, fillingOf}
+use Rattle.opening.specs.Opened as opening
 
 abbrev pub EplState : Type 0
 EplState = State LabelPosition
@@ -44,13 +47,16 @@ abbrev pub answers : List ℕ → List EplAnswer
 answers s = answersOf (suc (left s fresh)) s fresh
 
 -- an input with all that is answered to it, with its normalised text, with its listing, with the profile's verdict on
--- it, or with what is due to `strict_list`
+-- it, or with what is due to `strict_list`; with its index, for a list of so many entries; with what opening one of these
+-- entries by its number is due
 pub data Case : Type 0 where
   says : List ℕ → List EplAnswer → Case
   becomes : List ℕ → List ℕ → Case
   lists : List ℕ → List ℕ → Case
   judges : List ℕ → Checked → Case
   strictly : List ℕ → Due → Case
+  indexes : List ℕ → ℕ → EplFilling → Case
+  opens : List ℕ → List LabelEntry → ℕ → Due → Case
 
 -- every row of a table holds
 abbrev pub Holds : List Case → Type 0
@@ -60,6 +66,8 @@ Holds (becomes s t ∷ cs) = (normalised s ≡ t) × Holds cs
 Holds (lists s t ∷ cs) = (dueOf s ≡ text t) × Holds cs
 Holds (judges s c ∷ cs) = (checkedOf s ≡ c) × Holds cs
 Holds (strictly s d ∷ cs) = (strictDueOf s ≡ d) × Holds cs
+Holds (indexes s m f ∷ cs) = (fillingOf s m ≡ f) × Holds cs
+Holds (opens s es i d ∷ cs) = (opening.dueOf s es i ≡ d) × Holds cs
 
 -- How the rows are written, in characters:
 abbrev pub case : String → List EplAnswer → Case

@@ -1,6 +1,6 @@
 // The host's entry points: a walk a step at a time, the listing of a file, and its normalised text; the well-site
-// profile's verdict on a file, and its listing under the profile; with every type that a host is handed. What is claimed
-// of them stands in specs/Claims.antt.
+// profile's verdict on a file, and its listing under the profile; the label index, and one label opened; with every type
+// that a host is handed. What is claimed of them stands in specs/Claims.antt.
 pub use elements::Barcode2of5;
 pub use elements::Barcode2of5WithData;
 pub use elements::Barcode39;
@@ -43,6 +43,10 @@ pub use elements::walk_state::WalkState;
 pub use elements::walk_state::start;
 pub use format::normalise::normalise;
 pub use frames::listing::list;
+pub use index::entry::LabelEntry;
+pub use index::labels::Indexed;
+pub use index::labels::index;
+pub use opening::label::open_label;
 pub use strict::check::check;
 pub use strict::listing::strict_list;
 pub use strict::verdict::Checked;

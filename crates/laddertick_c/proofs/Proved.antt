@@ -1,10 +1,11 @@
 -- The code of the static library's functions, and the contracts that it is proved to meet, as `Proved` of the crate
 -- `laddertick` has them for the plain ones: `owes` says what an `ensures` says. a are the arguments, r the result, z
 -- the arguments at exit. Assumes nothing.
-use mathlib.Core.Path.{_≡_}
+use mathlib.Core.Path.{_≡_, refl}
+use lib.ListN.{length}
 use Rattle.elements.specs.Walk.{fresh}
 use Rattle.decoding.specs.Decoding as decoding
-use Rattle.flat.specs.Written.{givenFlat}
+use Rattle.flat.specs.Written.{givenFlat, countedFlat}
 use Rattle.elements.specs.Given.{Fills}
 use Rattle.whole.specs.Step as theory
 use Rattle.grammar.specs.Epl.{epl}
@@ -14,7 +15,9 @@ use Rattle.frames.specs.Listing as listing
 use Rattle.format.specs.Normalise as normal
 use Rattle.strict.specs.Verdict.{checkedOf}
 use Rattle.strict.specs.Listing.{strictDueOf}
-use Rattle.laddertick.specs.Proved.{Owes}
+use Rattle.index.specs.Plan.{Indexes, fillingOf}
+use Rattle.opening.specs.Opened as opening
+use Rattle.laddertick.specs.Proved.{Owes, Says}
 use Rattle.laddertick_c.proofs.laddertick_start.Statement as start
 use Rattle.laddertick_c.proofs.laddertick_start.Kinds as start-kinds
 use Rattle.laddertick_c.proofs.laddertick_start.Reads as start-reads
@@ -43,6 +46,12 @@ use Rattle.laddertick_c.proofs.laddertick_strict_list.Statement as stri
 use Rattle.laddertick_c.proofs.laddertick_strict_list.Kinds as strict-list-kinds
 use Rattle.laddertick_c.proofs.laddertick_strict_list.Reads as strict-list-reads
 use Rattle.laddertick_c.proofs.laddertick_strict_list.Met as strict-list-met
+use Rattle.laddertick_c.proofs.laddertick_index as index-fn
+use Rattle.laddertick_c.proofs.laddertick_index.Statement as index
+use Rattle.laddertick_c.proofs.laddertick_index.Met as index-met
+use Rattle.laddertick_c.proofs.laddertick_open as open-fn
+use Rattle.laddertick_c.proofs.laddertick_open.Statement as open-label
+use Rattle.laddertick_c.proofs.laddertick_open.Met as open-met
 
 pub record Proved : Type 2 where
   pub start : {M : Type 1} → start.statement M
@@ -52,6 +61,8 @@ pub record Proved : Type 2 where
   pub normalise : {M : Type 1} → normalise.statement M
   pub check : {M : Type 1} → check.statement M
   pub strict-list : {M : Type 1} → strict-list.statement M
+  pub index : {M : Type 1} → index.statement M
+  pub open-label : {M : Type 1} → open-label.statement M
   pub start-owes : Owes 0 start-kinds.ps start-kinds.r start-reads.Post (λ κs a r z. r ≡ fresh)
   pub step-owes : Owes 1 step-kinds.ps step-kinds.r step-reads.Post (λ κs a r z. r ≡ flatOf (theory.step epl (a .0 .now) (stateOf (a .1 .0))))
   pub decode-owes : Owes 2 decode-kinds.ps decode-kinds.r decode-reads.Post
@@ -60,6 +71,8 @@ pub record Proved : Type 2 where
   pub normalise-owes : Owes 2 normalise-kinds.ps normalise-kinds.r normalise-reads.Post (λ κs a r z. Fills (z .1 .0 .now) (a .1 .0 .now) (normal.dueOf (a .0 .now)) (givenFlat r))
   pub check-owes : Owes 1 check-kinds.ps check-kinds.r check-reads.Post (λ κs a r z. r ≡ checkedOf (a .0 .now))
   pub strict-list-owes : Owes 2 strict-list-kinds.ps strict-list-kinds.r strict-list-reads.Post (λ κs a r z. Fills (z .1 .0 .now) (a .1 .0 .now) (strictDueOf (a .0 .now)) (givenFlat r))
+  pub index-says : Says index-fn.ended (λ M. index-fn.clauses {M = M}) (λ κs a r z. Indexes (z .1 .0 .now) (a .1 .0 .now) (fillingOf (a .0 .now) (length (a .1 .0 .now))) (countedFlat r))
+  pub open-label-says : Says open-fn.ended (λ M. open-fn.clauses {M = M}) (λ κs a r z. Fills (z .1 .1 .1 .0 .now) (a .1 .1 .1 .0 .now) (opening.dueOf (a .0 .now) (a .1 .0 .now) (a .1 .1 .0)) (givenFlat r))
 
 pub proved : Proved
 proved = record {
@@ -70,6 +83,8 @@ proved = record {
   normalise = normalise-met.met;
   check = check-met.met;
   strict-list = strict-list-met.met;
+  index = index-met.met;
+  open-label = open-met.met;
   start-owes = λ κs a r z p. p;
   step-owes = λ κs a r z p. p;
   decode-owes = λ κs a r z p. p;
@@ -77,4 +92,6 @@ proved = record {
   normalise-owes = λ κs a r z p. p;
   check-owes = λ κs a r z p. p;
   strict-list-owes = λ κs a r z p. p;
+  index-says = λ M 𝓤 H A mem run κs a g. (refl, λ r z. refl);
+  open-label-says = λ M 𝓤 H A mem run κs a g. (refl, λ r z. refl);
 }

@@ -1,12 +1,15 @@
 // The static library that hosts link. Nothing is asked of a caller but that what it lends is its own for the call.
 ghost use mathlib.Core.Path.{_≡_};
+ghost use lib.ListN.{length};
 ghost use Rattle.elements.specs.Given.{Fills};
 ghost use Rattle.whole.specs.Step as theory;
 ghost use Rattle.grammar.specs.Epl.{epl};
 ghost use Rattle.decoding.specs.Decoding as decoding;
-ghost use Rattle.flat.specs.Written.{givenFlat};
+ghost use Rattle.flat.specs.Written.{givenFlat, countedFlat};
 ghost use Rattle.format.specs.Normalise as normalise;
 ghost use Rattle.frames.specs.Listing as listing;
+ghost use Rattle.index.specs.Plan.{Indexes, fillingOf};
+ghost use Rattle.opening.specs.Opened as opening;
 ghost use Rattle.strict.specs.Verdict.{checkedOf};
 ghost use Rattle.strict.specs.Listing.{strictDueOf};
 ghost use Rattle.elements.specs.Walk.{fresh};
@@ -18,11 +21,15 @@ use flat::answer::FlatAnswer;
 use flat::steps::flat_step;
 use flat::written::Written;
 use flat::written::of_filled;
+use flat::written::of_indexed;
 use laddertick::Checked;
+use laddertick::LabelEntry;
 use laddertick::WalkState;
 use laddertick::check;
+use laddertick::index;
 use laddertick::list;
 use laddertick::normalise;
+use laddertick::open_label;
 use laddertick::start;
 use laddertick::step;
 use laddertick::strict_list;
@@ -82,4 +89,27 @@ pub extern "C" fn laddertick_strict_list(input: &[u8], out: &mut [u8]) -> Writte
     ensures { λ r. ⌜ Fills (now (out .exit)) (now (out .entry)) (strictDueOf (now (input .entry))) (givenFlat r) ⌝ }
 {
     of_filled(strict_list(input, out))
+}
+
+// An entry for each label of input, in print order, from the start of the list; or a refusal that leaves the list as it
+// came.
+#[no_mangle]
+pub extern "C" fn laddertick_index(input: &[u8], entries: &mut [LabelEntry]) -> Written
+    ensures { λ r. ⌜ Indexes (now (entries .exit)) (now (entries .entry)) (fillingOf (now (input .entry)) (length (now (entries .entry)))) (countedFlat r) ⌝ }
+{
+    of_indexed(index(input, entries))
+}
+
+// The lines of the listing for the label with this number, from the start of out; or a refusal that leaves out as it
+// came.
+#[no_mangle]
+pub extern "C" fn laddertick_open(
+    input: &[u8],
+    entries: &[LabelEntry],
+    number: usize,
+    out: &mut [u8],
+) -> Written
+    ensures { λ r. ⌜ Fills (now (out .exit)) (now (out .entry)) (opening.dueOf (now (input .entry)) (now (entries .entry)) number) (givenFlat r) ⌝ }
+{
+    of_filled(open_label(input, entries, number, out))
 }

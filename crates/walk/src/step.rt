@@ -1,6 +1,9 @@
-// The step that a host calls. Nothing is asked of the state that it hands in.
+// The step that a host calls, and its inner part. Nothing is asked of the state that a host hands in.
 ghost use mathlib.Core.Path.{_≡_};
-ghost use Rattle.whole.specs.Step.{step};
+ghost use Prim.Native.Nat.{_≤_};
+ghost use lib.ListN.{length, drop};
+ghost use Rattle.elements.specs.Given.{longest};
+ghost use Rattle.whole.specs.Step.{step, answer, handing};
 ghost use Rattle.grammar.specs.Epl.{epl};
 ghost use Rattle.walk.specs.Steps.{stateOf, answerOf};
 use crate::answer::Answer;
@@ -13,22 +16,32 @@ use elements::walk_state::WalkState;
 use units::unit::Reading;
 use units::unit::read_unit;
 
-// The step: an element, a clear, a print, the end, or a refusal with the state as given. What answers nothing is passed
-// within it. The end prints nothing: its state has the count of what is pending.
+// The step: an element, a clear, a print, the end, or a refusal with the state as given.
 pub fn step(input: &[u8], st: WalkState) -> Answer
     ensures { λ r. ⌜ answerOf r ≡ step epl (now (input .entry)) (stateOf st) ⌝ }
 {
     if LONGEST < input.len() {
         return Answer::Refused(st, Refusal::InputTooLong, 0);
     }
-    let mut at = st.place;
+    let at = st.place;
     if input.len() < at {
         return Answer::Refused(st, Refusal::StateOutside, at);
     }
-    let n = st.pending;
-    if at < n {
+    if at < st.pending {
         return Answer::Refused(st, Refusal::StateOutside, at);
     }
+    answer_from(input, st)
+}
+
+// The first answer from a place within the input, or a refusal with the state as given. What answers nothing is passed
+// within it. The end prints nothing: its state has the count of what is pending. That count may be any: with one more
+// than there are, a print line that prints nothing is answered too, and the label index is built on that.
+pub fn answer_from(input: &[u8], st: WalkState) -> Answer
+    requires { ⌜ (length (now input) ≤ longest) × (st .place ≤ length (now input)) × (st .pending ≤ 16777217) ⌝ }
+    ensures { λ r. ⌜ answerOf r ≡ handing (stateOf st) (answer epl (drop (st .place) (now (input .entry))) (st .place) (st .reference) (st .pending)) ⌝ }
+{
+    let mut at = st.place;
+    let n = st.pending;
     let mut reference = st.reference;
     loop {
         match read_unit(&input[at..], at, reference) {

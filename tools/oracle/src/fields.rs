@@ -60,12 +60,21 @@ fn with(listing: &str, frames: Vec<Vec<i32>>) -> String {
     lines.collect()
 }
 
-/// What a unit does: `N`, a print line with its counts, an element with its numbers, or nothing that a label shows.
-enum Says {
+/// What a unit does: `N`, a reference line with its x and, where it has a comma, its y, a print line with its counts, an element with its numbers, or nothing that a label shows.
+pub(crate) enum Says {
     Clear,
+    Reference(i32, Option<i32>),
     Print(Vec<i32>),
     Element(Vec<i32>),
     Nothing,
+}
+
+/// The unit from a place to its end, in an accepted input.
+pub(crate) fn says(input: &[u8], place: usize, end: usize) -> Says {
+    match block_end(input, place) {
+        Some(_) => Says::Element(Vec::new()),
+        None => line_says(String::from_utf8_lossy(&input[place..end]).trim()),
+    }
 }
 
 /// The labels of an accepted input, each with its elements behind it, and the elements that are pending at its end.
@@ -73,11 +82,7 @@ fn frames(input: &[u8]) -> (Vec<Vec<i32>>, Vec<Vec<i32>>) {
     let (mut printed, mut pending, mut place) = (Vec::new(), Vec::new(), 0);
     while place < input.len() {
         let end = unit_end(input, place);
-        let says = match block_end(input, place) {
-            Some(_) => Says::Element(Vec::new()),
-            None => line_says(String::from_utf8_lossy(&input[place..end]).trim()),
-        };
-        match says {
+        match says(input, place, end) {
             Says::Clear => pending.clear(),
             Says::Print(_) if pending.is_empty() => {}
             Says::Print(counts) => {
@@ -85,7 +90,7 @@ fn frames(input: &[u8]) -> (Vec<Vec<i32>>, Vec<Vec<i32>>) {
                 printed.append(&mut pending);
             }
             Says::Element(numbers) => pending.push(numbers),
-            Says::Nothing => {}
+            Says::Reference(..) | Says::Nothing => {}
         }
         place = end;
     }
@@ -98,8 +103,12 @@ fn line_says(line: &str) -> Says {
     if line == "N" {
         return Says::Clear;
     }
-    if behind('R').is_some_and(|rest| rest.starts_with(|c: char| c.is_ascii_digit())) {
-        return Says::Nothing;
+    if let Some(rest) = behind('R').filter(|rest| rest.starts_with(|c: char| c.is_ascii_digit())) {
+        let number = |field: &str| field.trim().parse().unwrap_or(0);
+        return match rest.split_once(',') {
+            Some((x, y)) => Says::Reference(number(x), Some(number(y))),
+            None => Says::Reference(number(rest), None),
+        };
     }
     if line.starts_with(['A', 'B', 'b']) {
         return match (line.find('"'), line.rfind('"')) {

@@ -8,6 +8,7 @@ mod elements;
 mod epl;
 pub mod fields;
 mod frames;
+pub mod index;
 pub mod masked;
 pub mod panics;
 mod standins;

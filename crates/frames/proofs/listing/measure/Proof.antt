@@ -3,21 +3,20 @@
 -- Assumes nothing.
 use mathlib.Core.Path.{_≡_, sym, ap, _∙_, refl}
 use mathlib.Core.List.{List, [], _∷_, _++_}
-use Prim.Native.Nat.{ℕ, _+_, _-_, _*_, _≤_, min}
+use Prim.Native.Nat.{ℕ, _+_, _-_, _*_, _≤_}
 use native.Mathlib.Omega.{arith}
-use native.Mathlib.Nat.{zero-add, min-eq-right, min-le-left}
+use native.Mathlib.Nat.{zero-add}
 use lib.ListN.{length, length-append}
 use Rattle.elements.specs.Walk.{fresh}
 use Rattle.walk.specs.Steps.{EplTrace, traceOf}
 use Rattle.walk.specs.declared.answer.Answer.{Answer}
 use Rattle.walk.specs.declared.answer.Answer.the-variants.{Element, Clear, Print, End, Refused}
 use Rattle.elements.specs.declared.walk_state.WalkState.{WalkState}
-use Rattle.frames.proofs.ListingLaws.{onStep, Moved, moved-by, begins, length-lines, length-label, length-pending-le}
-use Rattle.elements.specs.declared.LabelElement.{LabelElement}
+use Rattle.walk.proofs.WalkLaws.{onStep, Moved, begins, moved-by}
+use Rattle.frames.proofs.ListingLaws.{length-lines, length-label, length-pending-le, frame-len-le, frame-len-is}
 use Rattle.element_frames.specs.Frame.{frameOf}
-use Rattle.element_frames.proofs.FrameLaws.{frame-in}
 use Rattle.whole.specs.Reach.{Final, accepted, refusal}
-use Rattle.elements.specs.Given.{Given, bytes, refused, needed, longest}
+use Rattle.elements.specs.Given.{Given, bytes, refused, needed}
 use Rattle.whole.specs.Trace.{stops, refuses, yields, clears, prints, ending, final, labelsIn}
 use Rattle.grammar.specs.Epl.{epl}
 use Rattle.frames.specs.Listing.{FramedLabel, linesOf, labelLines, pendingLine, listingOf, listingDue, dueOf}
@@ -40,13 +39,6 @@ longer k (refused n p) = refused n p
 longer-zero : (z : Given) → longer 0 z ≡ z
 longer-zero (bytes n) = ap bytes (zero-add n)
 longer-zero (refused n p) = refl
-
--- the frames of an input that the walk takes are counted exactly
-frame-len-le : (s : List ℕ) (e : LabelElement) (n : ℕ) → n ≡ min 4294967295 (length (frameOf s e)) → n ≤ 4294967295
-frame-len-le s e n q = rw q (min-le-left 4294967295 (length (frameOf s e)))
-
-frame-len-is : (s : List ℕ) (e : LabelElement) → length s ≤ longest → min 4294967295 (length (frameOf s e)) ≡ length (frameOf s e)
-frame-len-is s e h = min-eq-right (omega (arith, frame-in s e))
 
 size-cons : (f : Final) (k : ℕ) (l : FramedLabel) (ls : List FramedLabel) → longer k (needed (listingDue (ending f (l ∷ ls)))) ≡ longer (k + length (labelLines l)) (needed (listingDue (ending f ls)))
 size-cons (accepted n) k l ls = ap bytes (omega (arith, length-append (labelLines l) (listingOf ls n)))

@@ -13,7 +13,8 @@ use Rattle.element_frames.specs.Hex.{lineOf}
 use Rattle.walk.specs.declared.answer.Answer.{Answer}
 use Rattle.walk.specs.declared.answer.Answer.the-variants.{Element}
 use Rattle.frames.specs.Listing.{linesOf, frontFrames}
-use Rattle.frames.proofs.ListingLaws.{lead-none, onStep, Moved, moved-by, lead-by}
+use Rattle.walk.proofs.WalkLaws.{onStep, Moved, moved-by}
+use Rattle.frames.proofs.ListingLaws.{lead-none, lead-by}
 use borrow.Author.Needs.{needs}
 use Rattle.frames.proofs.listing.put_elements.Statement.{statement}
 use Rattle.frames.proofs.listing.put_elements.Tie as tie

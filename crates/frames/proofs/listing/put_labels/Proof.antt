@@ -12,7 +12,8 @@ use Rattle.elements.specs.declared.walk_state.WalkState.{WalkState}
 use Rattle.walk.specs.declared.answer.Answer.{Answer}
 use Rattle.walk.specs.declared.answer.Answer.the-variants.{Element, Clear, Print, End, Refused}
 use Rattle.frames.specs.Listing.{labelText, pendingLine, frontFrames, textOf, textFrom, allText}
-use Rattle.frames.proofs.ListingLaws.{onStep, Moved, moved-by, text-by, after-by}
+use Rattle.walk.proofs.WalkLaws.{onStep, Moved, moved-by}
+use Rattle.frames.proofs.ListingLaws.{text-by, after-by}
 use borrow.Author.Needs.{needs}
 use Rattle.frames.proofs.listing.put_labels.Statement.{statement}
 use Rattle.frames.proofs.listing.put_labels.Tie as tie

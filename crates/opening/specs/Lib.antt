@@ -1,0 +1,2 @@
+-- 01, "The label index": opening one label
+pub mod Opened

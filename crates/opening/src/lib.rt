@@ -1,0 +1,2 @@
+// One label of a file, read from its entry of the index, into a buffer that the host lends.
+pub mod label;

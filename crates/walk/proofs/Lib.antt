@@ -1,0 +1,2 @@
+-- the walk by a step's answer
+pub mod WalkLaws
