@@ -58,7 +58,9 @@ enum {
     LADDERTICK_SIZE_OUT_OF_RANGE = 19,
     /* The host again, with the label index: */
     LADDERTICK_TOO_MANY_LABELS = 20, /* more labels than entries are lent; the place is the label count */
-    LADDERTICK_NO_SUCH_LABEL = 21    /* a number past the list, or an entry that yields no label; the place is the number */
+    LADDERTICK_NO_SUCH_LABEL = 21    /* a number past the list, or an entry that yields no label; the place is the number */,
+    /* The host, by laddertick_join alone: a joined text of more than LADDERTICK_LONGEST bytes; the place is its length. */
+    LADDERTICK_JOINED_TOO_LONG = 25
 };
 
 /* ---- a file, a step at a time ---- */
@@ -240,6 +242,20 @@ laddertick_written laddertick_open(const uint8_t *input, size_t input_len, const
 
    Of an entry that laddertick_index made of these bytes the last answer is the print, with count, sets and copies. Of any other it may be the end or a refusal, and a host that
    took it from elsewhere looks first whether `last` is within the input. */
+
+/* ---- two files joined ---- */
+
+typedef struct laddertick_joined {
+    uint32_t number; /* 0: `place` bytes are written, from the start of out; bytes past them keep their values. Else the number of the refusal, and out is as it came */
+    uint32_t file;   /* which file was refused, 1 or 2; 0 where neither was: 15, 25, and number 0 */
+    size_t place;    /* of the refusal, in the file that was refused; of 15 and 25 the joined length */
+} laddertick_joined;
+
+/* The first file normalised, a line N, the second normalised. Its labels are those of the first followed by those of the second, every frame the same; elements
+   pending at the end of the first are dropped by the line N, those of the second are pending at the end. The graphics of both stand in it in order. Both files are
+   read whole before anything is written, and may be the same or overlap; neither may overlap out. n + n / 6 + m + m / 6 + 4 bytes are always enough for n and m.
+   Refusals: those of laddertick_step for the first file, then those for the second, 14 too; then 25; then 15. */
+laddertick_joined laddertick_join(const uint8_t *first, size_t first_len, const uint8_t *second, size_t second_len, uint8_t *out, size_t out_len);
 
 #ifdef __cplusplus
 }

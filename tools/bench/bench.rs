@@ -34,8 +34,10 @@ const NORMALISE: Function = Function { name: "normalise", call: |input, out| lib
 const FORMAT: Function = Function { name: "format_epl", call: |input, _| oracle::normalised(input).len() };
 const CHECK: Function = Function { name: "check", call: |input, _| library::check(input) };
 const INDEX: Function = Function { name: "index", call: |input, out| library::index(input, out) };
+const JOIN: Function = Function { name: "join", call: |input, out| library::join(input, out) };
+const PARTS: Function = Function { name: "parts", call: |input, out| library::parts(input, out) };
 const COPY: Function = Function { name: "copy", call: |input, out| copy(input, out) };
-const FUNCTIONS: [&Function; 7] = [&WALK, &PARSE, &NORMALISE, &FORMAT, &CHECK, &INDEX, &COPY];
+const FUNCTIONS: [&Function; 9] = [&WALK, &PARSE, &NORMALISE, &FORMAT, &CHECK, &INDEX, &JOIN, &PARTS, &COPY];
 
 fn copy(input: &[u8], out: &mut [u8]) -> usize {
     out[..input.len()].copy_from_slice(input);
@@ -49,9 +51,9 @@ fn measured(call: &dyn Fn(&[u8], &mut [u8]) -> usize, input: &[u8], out: &mut [u
     call(black_box(input), black_box(out))
 }
 
-/// Room for any normalised text.
+/// Room for any normalised text, also of a file joined with itself.
 fn room(size: usize) -> usize {
-    size + size / 6 + 1
+    2 * (size + size / 6 + 1) + 2
 }
 
 /// What the caches hold when a call begins: what the last one left there, or nothing of the input and of the room.
@@ -305,6 +307,16 @@ fn times() {
         strict = strict.max(check / walk);
     }
     let (index, open) = (indexed(), opening());
+    println!("\nA file joined with itself beside both walks and both normalisings, nanoseconds a byte of the file\n");
+    println!("| input | join | parts | times the parts |");
+    println!("|---|---|---|---|");
+    let mut joined: f64 = 0.0;
+    for kind in KINDS {
+        let input = made(kind, SIZES[0]);
+        let [join, parts] = times_of(1, [Job::new(&JOIN, &input), Job::new(&PARTS, &input)]);
+        println!("| {} | {join:.3} | {parts:.3} | {:.1} |", kind.name, join / parts);
+        joined = joined.max(join / parts);
+    }
     let growths = grown();
     println!("\nTargets\n");
     let least = |rows: &[(f64, f64)]| rows.iter().map(|(mine, theirs)| theirs / mine).fold(f64::MAX, f64::min);
@@ -318,6 +330,7 @@ fn times() {
     target("check on every input, times the time of the walk, at most 2.5", strict, |r| r <= 2.5);
     target("index of 16 MiB of labels, times the time of the walk, at most 1.3", index, |r| r <= 1.3);
     target("open of the last label of 16 MiB, times that of the first of 64 KiB, at most 2", open, |r| r <= 2.0);
+    target("join on every input, times the time of its parts, at most 2.2", joined, |r| r <= 2.2);
     for (reading, most) in READINGS.iter().zip(growths) {
         target(&format!("16 MiB, times the time of 1 MiB, {reading}, at most 18"), most, |r| r <= 18.0);
     }

@@ -52,3 +52,15 @@ pub fn open(input: &[u8], entries: &[raw::Entry], number: usize, out: &mut [u8])
     assert_eq!(written.number, 0);
     written.place
 }
+
+/// A file joined with itself; one that is refused at its end is walked once, and no more.
+pub fn join(input: &[u8], out: &mut [u8]) -> usize {
+    let joined = raw::join(input, input, out);
+    assert!(joined.number == 0 || (joined.file == 1 && joined.place + 8 > input.len()));
+    joined.place
+}
+
+/// What a file joined with itself is made of: the walks and the normalisings.
+pub fn parts(input: &[u8], out: &mut [u8]) -> usize {
+    walk(input) + walk(input) + normalise(input, out) + normalise(input, out)
+}

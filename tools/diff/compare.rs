@@ -1,7 +1,8 @@
 //! One input put to the library, with room to spare for the answer and with none, and held against what it should answer.
 
 use crate::index;
-use crate::raw::{self, Written};
+use crate::join;
+use crate::raw::{self, Joined, Written};
 use crate::steps;
 use crate::strict;
 use oracle::{fields, Answer};
@@ -21,7 +22,7 @@ pub struct Seen {
 }
 
 /// Bytes on either side of what is lent.
-const MARGIN: usize = 32;
+pub const MARGIN: usize = 32;
 
 /// What lies around an input changes from call to call, and must not matter.
 const AROUND: &[u8] = b"9,\"\n GWNP\x80";
@@ -29,17 +30,27 @@ const AROUND: &[u8] = b"9,\"\n GWNP\x80";
 /// The buffers that are lent to the library. Before each call `out` is marked all over with a byte that no listing has.
 #[derive(Default)]
 pub struct Lent {
-    input: Vec<u8>,
+    pub input: Vec<u8>,
     out: Vec<u8>,
     calls: usize,
 }
 
 impl Lent {
     fn call(&mut self, function: Function, input: &[u8], room: usize) -> Written {
+        self.marked(input, room);
+        function(&self.input[MARGIN..][..input.len()], &mut self.out[MARGIN..][..room])
+    }
+
+    /// Two files joined; the second is lent as it stands.
+    pub fn joining(&mut self, first: &[u8], second: &[u8], room: usize) -> Joined {
+        self.marked(first, room);
+        raw::join(&self.input[MARGIN..][..first.len()], second, &mut self.out[MARGIN..][..room])
+    }
+
+    fn marked(&mut self, input: &[u8], room: usize) {
         self.place(input);
         self.out.clear();
         self.out.resize(room + 2 * MARGIN, self.mark());
-        function(&self.input[MARGIN..][..input.len()], &mut self.out[MARGIN..][..room])
     }
 
     /// The input where it is lent, and other bytes around it than at the last call.
@@ -57,12 +68,12 @@ impl Lent {
     }
 
     /// The first n bytes of the room.
-    fn written(&self, n: usize) -> &[u8] {
+    pub fn written(&self, n: usize) -> &[u8] {
         &self.out[MARGIN..][..n]
     }
 
     /// All bytes but the first n of the room still hold the mark.
-    fn kept_but(&self, n: usize) -> bool {
+    pub fn kept_but(&self, n: usize) -> bool {
         let holds_mark = |part: &[u8]| part.iter().fold(0, |other, b| other | (b ^ self.mark())) == 0;
         holds_mark(&self.out[..MARGIN]) && holds_mark(&self.out[MARGIN + n..])
     }
@@ -70,7 +81,8 @@ impl Lent {
 
 /// Holds the library's answers against the Rust's: the listing's, the walk's and the normalised text's. The fields of frames that the Rust has not are left
 /// out before its listing is compared, and are then held to the definition. The normalised text of an accepted input is listed alike, and normalising it
-/// again changes nothing. The strict reading is held beside the plain one, and the index of labels beside the units and the listing. An error says in words what is wrong.
+/// again changes nothing. The strict reading is held beside the plain one, the index of labels beside the units and the listing, and the input is joined to others. An error
+/// says in words what is wrong.
 pub fn compare(lent: &mut Lent, input: &[u8], rust: &Answer) -> Result<Seen, String> {
     as_the_rust(lent, input, rust)?;
     let expected = &fields::told(input, rust);
@@ -85,12 +97,15 @@ pub fn compare(lent: &mut Lent, input: &[u8], rust: &Answer) -> Result<Seen, Str
         listed(lent, &raw::strict_list, input, expected).map_err(|wrong| format!("listing strictly, {wrong}"))?;
     }
     steps::walked(lent.place(input), expected).map_err(|wrong| format!("walking, {wrong}"))?;
+    let joined = |lent: &mut Lent, text: &[u8]| join::joined(lent, input, expected, text).map_err(|wrong| format!("joining, {wrong}"));
     if input.len() > oracle::LIMIT {
+        joined(lent, b"")?;
         refused(lent, &raw::normalise, input, 14, 0)?;
         return Ok(seen);
     }
     let text = oracle::normalised(input);
     written(lent, &raw::normalise, input, &text).map_err(|wrong| format!("normalising, {wrong}"))?;
+    joined(lent, &text)?;
     if text.len() <= oracle::LIMIT && matches!(expected, Answer::Labels(_)) {
         listed(lent, &raw::list, &text, expected).map_err(|wrong| format!("the normalised text, {wrong}"))?;
         written(lent, &raw::normalise, &text, &text).map_err(|wrong| format!("normalising again, {wrong}"))?;

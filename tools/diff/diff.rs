@@ -3,6 +3,7 @@
 
 mod compare;
 mod index;
+mod join;
 #[path = "../../bindings/rust/src/raw.rs"]
 mod raw;
 mod short;

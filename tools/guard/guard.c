@@ -101,6 +101,10 @@ static laddertick_written written;
 static laddertick_checked checked;
 static laddertick_entry *entries;
 static size_t entries_len, label;
+/* The second of two files, in memory of its own, and what was answered to both. */
+static const uint8_t *second;
+static size_t second_len;
+static laddertick_joined joined;
 
 static void do_step(void) { answer = laddertick_step(input, input_len, walk); }
 static void do_data(void) { written = laddertick_data(input, input_len, start, len, out, out_len); }
@@ -110,6 +114,12 @@ static void do_check(void) { checked = laddertick_check(input, input_len); }
 static void do_index(void) { written = laddertick_index(input, input_len, entries, entries_len); }
 static void do_open(void) { written = laddertick_open(input, input_len, entries, entries_len, label, out, out_len); }
 static void do_normalise(void) { written = laddertick_normalise(input, input_len, out, out_len); }
+
+static void do_join(void)
+{
+    joined = laddertick_join(input, input_len, second, second_len, out, out_len);
+    written = (laddertick_written){joined.number, joined.place};
+}
 
 static void call(const char *name, void (*function)(void))
 {
@@ -133,7 +143,7 @@ static size_t deepest(void)
 
 /* ---- one input ---- */
 
-static region inputs, outs, lists;
+static region inputs, seconds, outs, lists;
 static size_t calls;
 static uint64_t seed;
 
@@ -353,6 +363,20 @@ static void made(int last)
     }
 }
 
+/* The input joined with the second half of it, behind the plain listing `plain`: where the input is refused, it is the first file. */
+static uint64_t joins(int last, laddertick_written plain)
+{
+    laddertick_written w = writes("laddertick_join", do_join, last);
+    int refused = w.number != 0;
+    if (joined.file > 2 || (joined.file != 0) != refused)
+        wrong("a file is told where none was refused, or none where one was");
+    if (plain.number != 0 && (joined.file != 1 || w.number != plain.number || w.place != plain.place))
+        wrong("not the first file's refusal");
+    if (plain.number == 0 && joined.file == 1)
+        wrong("the first file is refused, which laddertick_list accepts");
+    return w.number + 31 * (w.place + 31 * (uint64_t)joined.file);
+}
+
 static void states(void)
 {
     for (int k = 0; k < 8; k++) {
@@ -385,6 +409,12 @@ static void hold(const uint8_t *bytes, size_t n)
         mprotect(inputs.at, inputs.len, PROT_READ);
         input = placed(inputs, n, last);
         input_len = n;
+        mprotect(seconds.at, seconds.len, PROT_READ | PROT_WRITE);
+        memset(seconds.at, '"', seconds.len);
+        second_len = n - n / 2;
+        memcpy(placed(seconds, second_len, last), bytes + n / 2, second_len);
+        mprotect(seconds.at, seconds.len, PROT_READ);
+        second = placed(seconds, second_len, last);
         sums[last] = walks(last, &labels);
         laddertick_written listing = writes("laddertick_list", do_list, last), text = writes("laddertick_normalise", do_normalise, last);
         sums[last] = sums[last] * 31 + listing.number + listing.place;
@@ -392,6 +422,7 @@ static void hold(const uint8_t *bytes, size_t n)
         sums[last] = sums[last] * 31 + checks(last, listing);
         sums[last] = sums[last] * 31 + indexed(last, listing, labels);
         made(last);
+        sums[last] = sums[last] * 31 + joins(last, listing);
     }
     doing = "both placements";
     if (sums[0] != sums[1])
@@ -406,10 +437,13 @@ static void hold_null(void)
     input_len = 0;
     size_t labels;
     walks(0, &labels);
+    second = NULL;
+    second_len = 0;
     laddertick_written listing = writes("laddertick_list", do_list, 0);
     checks(0, listing);
     indexed(0, listing, labels);
     made(0);
+    joins(0, listing);
     writes("laddertick_normalise", do_normalise, 0);
     states();
 }
@@ -454,6 +488,7 @@ int main(int argc, char **argv)
     seed = strtoull(argv[3], NULL, 10) | 1;
     static uint8_t bytes[65536], copy[65536];
     inputs = map(sizeof bytes);
+    seconds = map(sizeof bytes);
     outs = map(16 * sizeof bytes);
     lists = map(sizeof bytes * sizeof *entries / 4); /* an element and its print line have more than four bytes */
     stack = map(STACK - PAGE);

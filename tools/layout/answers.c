@@ -104,6 +104,13 @@ static void entry(const char *what, laddertick_entry got, laddertick_entry due)
 #undef F
 }
 
+static void joined(const char *what, laddertick_joined got, laddertick_joined due)
+{
+#define F(field) number(what, #field, (double)got.field, (double)due.field);
+    FIELDS_laddertick_joined(F)
+#undef F
+}
+
 static void bytes(const char *what, const void *got, const void *due, size_t n)
 {
     if (memcmp(got, due, n) != 0) {
@@ -210,6 +217,20 @@ static void indexes(void)
     written("open an entry that ends past the end", laddertick_open(input, input_len, made, 2, 1, out, 117), (laddertick_written){16, 99});
 }
 
+/* Two files joined: each field of the answer, and what is written. */
+static void joins(void)
+{
+    static const uint8_t FIRST[] = " LO1,2,3,4\r\nLO5", SECOND[] = "P1\n\nLO1";
+    uint8_t out[32];
+    memset(out, '.', sizeof out);
+    joined("the first refused", laddertick_join(FIRST, 15, SECOND, 7, out, sizeof out), (laddertick_joined){4, 1, 12});
+    joined("the second refused", laddertick_join(FIRST, 10, SECOND, 7, out, sizeof out), (laddertick_joined){4, 2, 4});
+    joined("join into 14 bytes", laddertick_join(FIRST, 12, SECOND, 3, out, 14), (laddertick_joined){15, 0, 15});
+    bytes("a refused join", out, "................................", sizeof out);
+    joined("join into 15 bytes", laddertick_join(FIRST, 12, SECOND, 3, out, 15), (laddertick_joined){0, 0, 15});
+    bytes("join", out, "LO1,2,3,4\nN\nP1\n.................", sizeof out);
+}
+
 /* NULL of length 0, for an input and for a buffer: an empty file, and no room. */
 static void null(void)
 {
@@ -227,6 +248,7 @@ static void null(void)
     }
     written("index NULL", laddertick_index(NULL, 0, NULL, 0), (laddertick_written){0, 0});
     checked("check NULL", laddertick_check(NULL, 0), (laddertick_checked){.number = 0});
+    joined("join NULL", laddertick_join(NULL, 0, NULL, 0, NULL, 0), (laddertick_joined){15, 0, 2});
     input = (const uint8_t *)"LO5,6,30,4";
     written("list into NULL", laddertick_list(input, 10, NULL, 0), (laddertick_written){15, 11});
     written("normalise into NULL", laddertick_normalise(input, 10, NULL, 0), (laddertick_written){15, 11});
@@ -241,6 +263,7 @@ int main(void)
     writes();
     checks();
     indexes();
+    joins();
     null();
     printf("layout: %zu answers of a step, every field of each: %s\n", looked_at, wrong ? "some are wrong" : "all as 01 says");
     return wrong;

@@ -5,10 +5,12 @@ BEGIN {
   if (to == "c") {
     host["FlatAnswer"] = "laddertick_answer"; host["Element"] = "laddertick_element"; host["WalkState"] = "laddertick_walk"; host["Written"] = "laddertick_written"
     host["Checked"] = "laddertick_checked"; host["LabelEntry"] = "laddertick_entry"
+    host["Joined"] = "laddertick_joined"
     type["u8"] = "uint8_t"; type["i32"] = "int32_t"; type["u32"] = "uint32_t"; type["usize"] = "size_t"; type["f64"] = "double"
   } else {
     host["FlatAnswer"] = "Answer"; host["Element"] = "Element"; host["WalkState"] = "Walk"; host["Written"] = "Written"
     host["Checked"] = "Checked"; host["LabelEntry"] = "Entry"
+    host["Joined"] = "Joined"
     for (t in size) type[t] = t
   }
   for (s in host) type[s] = host[s]

@@ -2,6 +2,8 @@
 ; struct are passed by their addresses, and so is the place for the answer. In the module itself, so that they are compiled into one as `rt staticlib` does it.
 %slice = type { ptr, i64 }
 %written = type { i32, i64 }
+; number and file in one word
+%joined = type { i64, i64 }
 
 define void @laddertick_start(ptr noalias sret([24 x i8]) align 8 %to) {
   call void @inner_start(ptr %to)
@@ -88,6 +90,19 @@ define %written @laddertick_open(ptr %input, i64 %len, ptr %entries, i64 %entrie
   call void @inner_open(ptr %w, ptr %s, ptr %e, i64 %number, ptr %o)
   %r = load %written, ptr %w, align 8
   ret %written %r
+}
+
+define %joined @laddertick_join(ptr %first, i64 %first_len, ptr %second, i64 %second_len, ptr %out, i64 %out_len) {
+  %a = alloca %slice, align 8
+  %b = alloca %slice, align 8
+  %o = alloca %slice, align 8
+  %w = alloca %joined, align 8
+  call void @slice_of(ptr %a, ptr %first, i64 %first_len)
+  call void @slice_of(ptr %b, ptr %second, i64 %second_len)
+  call void @slice_of(ptr %o, ptr %out, i64 %out_len)
+  call void @inner_join(ptr %w, ptr %a, ptr %b, ptr %o)
+  %r = load %joined, ptr %w, align 8
+  ret %joined %r
 }
 
 define internal void @slice_of(ptr %s, ptr %bytes, i64 %len) alwaysinline {

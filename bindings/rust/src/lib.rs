@@ -22,6 +22,7 @@
 mod check;
 mod element;
 mod index;
+mod join;
 mod raw;
 mod refused;
 mod walk;
@@ -30,6 +31,7 @@ mod write;
 pub use check::{check, Field, Held, Unfit};
 pub use element::{BarMode, Bars, Colour, Element, Kind, QrLevel, Scale};
 pub use index::{Entry, Index};
+pub use join::{join, Part, Unjoined};
 pub use refused::Refused;
 pub use walk::{labels, steps, Label, Labels, Print, Step, Steps, Unprinted};
 use write::write;

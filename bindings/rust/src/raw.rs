@@ -90,6 +90,15 @@ pub struct Entry {
     pub y: i32,
 }
 
+/// Number 0: `place` bytes are written. Else a refusal, and the file that was refused, 1 or 2; 0 where neither was.
+#[repr(C)]
+#[derive(Clone, Copy, Debug, PartialEq, Eq)]
+pub struct Joined {
+    pub number: u32,
+    pub file: u32,
+    pub place: usize,
+}
+
 extern "C" {
     fn laddertick_start() -> Walk;
     fn laddertick_step(input: *const u8, input_len: usize, walk: Walk) -> Answer;
@@ -100,6 +109,7 @@ extern "C" {
     fn laddertick_strict_list(input: *const u8, input_len: usize, out: *mut u8, out_len: usize) -> Written;
     fn laddertick_index(input: *const u8, input_len: usize, entries: *mut Entry, entries_len: usize) -> Written;
     fn laddertick_open(input: *const u8, input_len: usize, entries: *const Entry, entries_len: usize, number: usize, out: *mut u8, out_len: usize) -> Written;
+    fn laddertick_join(first: *const u8, first_len: usize, second: *const u8, second_len: usize, out: *mut u8, out_len: usize) -> Joined;
 }
 
 // Safe, all of them: the pointers and lengths are those of slices, which nobody writes meanwhile and which, one of them being `&mut`, do not overlap. An empty
@@ -139,4 +149,8 @@ pub fn index(input: &[u8], entries: &mut [Entry]) -> Written {
 
 pub fn open(input: &[u8], entries: &[Entry], number: usize, out: &mut [u8]) -> Written {
     unsafe { laddertick_open(input.as_ptr(), input.len(), entries.as_ptr(), entries.len(), number, out.as_mut_ptr(), out.len()) }
+}
+
+pub fn join(first: &[u8], second: &[u8], out: &mut [u8]) -> Joined {
+    unsafe { laddertick_join(first.as_ptr(), first.len(), second.as_ptr(), second.len(), out.as_mut_ptr(), out.len()) }
 }

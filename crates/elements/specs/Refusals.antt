@@ -8,6 +8,7 @@ use Rattle.elements.specs.declared.refusal.Refusal.the-variants.{Graphic
 use Rattle.elements.specs.declared.refusal.Refusal.the-variants.{OutOfRange, InputTooLong, OutputTooShort}
 use Rattle.elements.specs.declared.refusal.Refusal.the-variants.{StateOutside, NoValue, OutsideProfile}
 use Rattle.elements.specs.declared.refusal.Refusal.the-variants.{SizeOutside, TooManyLabels, NoSuchLabel}
+use Rattle.elements.specs.declared.refusal.Refusal.the-variants.{JoinedTooLong}
 
 abbrev pub numberOf : Refusal → ℕ
 -- 1 `A`, 2 `B`, 3 `b`, 4 `LO`/`LW`/`LE`, 5 `LS`, 6 `X` with too few fields
@@ -40,3 +41,5 @@ numberOf SizeOutside = 19
 -- 20 more labels than entries; 21 an entry number past the last label, or an entry that yields none
 numberOf TooManyLabels = 20
 numberOf NoSuchLabel = 21
+-- 25 a joined text over 16,777,216 bytes
+numberOf JoinedTooLong = 25

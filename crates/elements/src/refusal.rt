@@ -37,6 +37,8 @@ pub enum Refusal {
     // The host: more labels than entries, an entry number that has no label.
     TooManyLabels,
     NoSuchLabel,
+    // a joined text too long to be read.
+    JoinedTooLong,
 }
 
 impl Refusal {
@@ -66,6 +68,7 @@ impl Refusal {
             Refusal::OutsideProfile => 18,
             Refusal::TooManyLabels => 20,
             Refusal::NoSuchLabel => 21,
+            Refusal::JoinedTooLong => 25,
         }
     }
 }

@@ -34,7 +34,7 @@ fn block_len(rest: &[u8]) -> usize
 }
 
 // The length of the normalised text: one pass, nothing written.
-fn measure(input: &[u8]) -> usize
+pub fn measure(input: &[u8]) -> usize
     requires { ⌜ length (now input) ≤ longest ⌝ }
     ensures { λ r. ⌜ r ≡ length (normalised (now (input .entry))) ⌝ }
 {
@@ -57,13 +57,13 @@ fn measure(input: &[u8]) -> usize
     total
 }
 
-// The normalised text, from the start of out.
-fn put_chunks(input: &[u8], out: &mut [u8]) -> usize
-    requires { ⌜ length (normalised (now input)) ≤ length (now out) ⌝ }
-    ensures { λ r. ⌜ Put (now (out .exit)) (now (out .entry)) 0 (normalised (now (input .entry))) r ⌝ }
+// The normalised text, from a place of out on.
+pub fn put_chunks(input: &[u8], out: &mut [u8], from: usize) -> usize
+    requires { ⌜ from + length (normalised (now input)) ≤ length (now out) ⌝ }
+    ensures { λ r. ⌜ Put (now (out .exit)) (now (out .entry)) from (normalised (now (input .entry))) r ⌝ }
 {
     let mut at = 0;
-    let mut to = 0;
+    let mut to = from;
     while at < input.len() {
         let rest = &input[at..];
         let n = block_len(rest);
@@ -100,5 +100,5 @@ pub fn normalise(input: &[u8], out: &mut [u8]) -> Filled
             return Filled::Refused(Refusal::OutputTooShort, n);
         }
     }
-    Filled::Bytes(put_chunks(input, out))
+    Filled::Bytes(put_chunks(input, out, 0))
 }

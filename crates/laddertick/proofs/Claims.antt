@@ -1,7 +1,7 @@
 -- The claims hold of any functions that meet the contracts (`theorem`). Assumes nothing.
 use mathlib.Core.Path.{_≡_, refl, sym, ap, subst, _∙_}
 use mathlib.Core.Bool.{false}
-use mathlib.Core.List.{List, [], map}
+use mathlib.Core.List.{List, [], _++_, map}
 use mathlib.Core.Logic.{_↔_, _⊎_, inl, inr}
 use Prim.Native.Nat.{ℕ, zero, suc, _≤_, _<_}
 use native.Mathlib.Omega.{arith}
@@ -10,7 +10,7 @@ use Rattle.text.proofs.BlankWhiteLaws.{code-points-trim}
 use Rattle.texts.proofs.FontLaws.{width-exact}
 use Rattle.elements.specs.declared.LabelElement.{LabelElement}
 use Rattle.elements.specs.declared.refusal.Refusal.{Refusal}
-use Rattle.elements.specs.declared.refusal.Refusal.the-variants.{TextFields, BarcodeFields, Barcode2dFields, LineFields, DiagonalFields, BoxFields, BarcodeType, Barcode2dType, QrData, GraphicFields, GraphicNegative, GraphicTruncated, OutOfRange, InputTooLong, OutputTooShort, StateOutside, NoValue, OutsideProfile, SizeOutside, TooManyLabels, NoSuchLabel}
+use Rattle.elements.specs.declared.refusal.Refusal.the-variants.{TextFields, BarcodeFields, Barcode2dFields, LineFields, DiagonalFields, BoxFields, BarcodeType, Barcode2dType, QrData, GraphicFields, GraphicNegative, GraphicTruncated, OutOfRange, InputTooLong, OutputTooShort, StateOutside, NoValue, OutsideProfile, SizeOutside, TooManyLabels, NoSuchLabel, JoinedTooLong}
 use Rattle.elements.specs.Refusals.{numberOf}
 use Rattle.elements.specs.Walk.{fresh}
 use Rattle.element_frames.specs.Frame.{be32, head, frameOf}
@@ -22,13 +22,13 @@ use Rattle.whole.specs.Labels.{labels, labelsOf}
 use Rattle.whole.specs.Reach as theory
 use Rattle.whole.specs.Reach.{Final, accepted, refusal}
 use Rattle.whole.specs.Normal.{each, Normal}
-use Rattle.whole.specs.Trace.{ending}
+use Rattle.whole.specs.Trace.{listed, ending}
 use Rattle.whole.specs.Claims.{Local, Walks}
 use Rattle.whole.proofs.DivisionLaws.{unique}
 use Rattle.whole.proofs.Whole.{whole}
 use Rattle.whole.proofs.Again.{normal-text}
 use Rattle.whole.proofs.Index.{indexed}
-use Rattle.whole.proofs.OutcomeLaws.{divides→listed}
+use Rattle.whole.proofs.OutcomeLaws.{divides→listed, listed→divides}
 use Rattle.whole.proofs.TraceLaws.{reach-outcome}
 use Rattle.elements.proofs.GivenLaws.{within-short}
 use Rattle.grammar.specs.Units.{EplUnit}
@@ -67,20 +67,26 @@ use Rattle.strict.proofs.ListingLaws.{own-due}
 use Rattle.strict.proofs.VerdictLaws.{accepted-by, clean-listed, listed-accepted, refused-plain, objected-by}
 use Rattle.frames.proofs.ListingRoomLaws.{length-listing-le, never-short}
 use Rattle.index.specs.declared.entry.LabelEntry.{LabelEntry}
+use Rattle.whole.specs.Join as theory-join
+use Rattle.joining.specs.Join.{joinedText, clearLine}
+use Rattle.joining.proofs.JoinLaws.{due-first, due-second, due-long, due-text}
+use Rattle.joining.proofs.EplLaws.{epl-joins}
 use Rattle.laddertick.specs.Contracts.{Library, Gives, DeniesList}
 use Rattle.laddertick.specs.Walked.{Walked, answered}
-use Rattle.laddertick.specs.Claims.{Divides, Normalising, Demand3, Profile, Indexing, Claims, Theorem}
+use Rattle.laddertick.specs.Claims.{Divides, Normalising, Demand3, Profile, Indexing, Joining, Joins, Claims, Theorem}
 use Rattle.laddertick.proofs.ColouredLaws.{exclusive-or}
 use Rattle.laddertick.proofs.WalkedLaws.{walked, one-walked, answered-is}
 use Rattle.laddertick.proofs.ContractsLaws.{step-hands-back, list-keeps, normalise-keeps, strict-list-keeps, long-step, long-list, long-normalise, long-check, long-strict-list, outside, end-keeps, ended-again, data-inside, denies}
 use Rattle.laddertick.proofs.ContractsLaws as calls
 use Rattle.laddertick.proofs.IndexLaws as index-laws
 use Rattle.laddertick.proofs.IndexLaws.{index-keeps, open-keeps, long-index, long-open}
+use Rattle.laddertick.proofs.JoinedLaws.{walked-lists, union-denies, union-gives, join-keeps, long-join}
 use Rattle.laddertick.proofs.Proved.{proved}
 use Rattle.laddertick.proofs.Starred.{starred}
 use Rattle.laddertick.proofs.Distinct.{distinct}
 use Rattle.laddertick.proofs.Profiled.{profiled}
 use Rattle.laddertick.proofs.Indexed as tabled
+use Rattle.laddertick.proofs.Joined.{joined}
 
 -- a frame looks only at the bytes of its own unit, wherever they stand
 local : Local epl (List ℕ) frameOf
@@ -244,8 +250,36 @@ module _ (library : Library) where
   index-refused-of : (s : List ℕ) (xs : List Answer) (n p : ℕ) → length s ≤ longest → Walked (library .step s) fresh xs (refusal n p) → (l : List LabelEntry) → DeniesList n p l (library .index s l)
   index-refused-of s xs n p short w l = index-laws.unfilled-by library s l n p (sym (final-is s short) ∙ sym (one-walked (library .step s) w (byCode s short .1) .1))
 
+  -- ---- two files joined
+  joining-of : (s t : List ℕ) (ls ms : List FramedLabel) (m k : ℕ) → outcomeOf s ≡ listed ls m → outcomeOf t ≡ listed ms k → Joining library s t ls ms k
+  joining-of s t ls ms m k a b = record {
+    text = joinedText s t;
+    becomes = λ us vs d e. (normalised s, normalised t, becomes d, becomes e, refl);
+    gives = λ h l. union-gives (library .join s t l) (library .unites s t l) (due-text s t (ls, m, a) (ms, k, b) h);
+    too-long = λ h l. union-denies (library .join s t l) (library .unites s t l) (due-long s t (ls, m, a) (ms, k, b) h);
+    divides = alike;
+    accepted-alike = λ h.
+        let d = accepts (joinedText s t) h (ls ++ ms) k alike in
+        let c = byCode (joinedText s t) h in
+        (c .0, subst (Walked (library .step (joinedText s t)) fresh (c .0)) (d .0) (c .1), d .1);
+    blocks-of-both = w .blocks-of-both;
+  }
+    where
+      w : theory-join.Joins epl (List ℕ) frameOf normalised clearLine origin blocks s t ls ms k
+      w = epl-joins s t ls ms m k (listed→divides epl reads (List ℕ) frameOf local s origin ls m a) (listed→divides epl reads (List ℕ) frameOf local t origin ms k b)
+
+      alike : Divides (joinedText s t) (ls ++ ms) k
+      alike = of-theory (joinedText s t) (ls ++ ms) k (w .divides)
+
+  joins-of : (s t : List ℕ) → Joins library s t
+  joins-of s t = record {
+    first-refused = λ xs n p w l. union-denies (library .join s t l) (library .unites s t l) (due-first s t (walked-lists library s xs (refusal n p) w));
+    second-refused = λ xs ys m n p w v l. union-denies (library .join s t l) (library .unites s t l) (due-second s t (_, m, walked-lists library s xs (accepted m) w) (walked-lists library t ys (refusal n p) v));
+    both-accepted = λ xs ys m k w v. joining-of s t _ _ m k (walked-lists library s xs (accepted m) w) (walked-lists library t ys (accepted k) v);
+  }
+
 -- ---- demand 1: the numbers of refusals
-numbered-of : (k : Refusal) → (1 ≤ numberOf k) × (numberOf k ≤ 21)
+numbered-of : (k : Refusal) → (1 ≤ numberOf k) × (numberOf k ≤ 25)
 numbered-of TextFields = (omega arith, omega arith)
 numbered-of BarcodeFields = (omega arith, omega arith)
 numbered-of Barcode2dFields = (omega arith, omega arith)
@@ -267,6 +301,7 @@ numbered-of OutsideProfile = (omega arith, omega arith)
 numbered-of SizeOutside = (omega arith, omega arith)
 numbered-of TooManyLabels = (omega arith, omega arith)
 numbered-of NoSuchLabel = (omega arith, omega arith)
+numbered-of JoinedTooLong = (omega arith, omega arith)
 
 -- ---- demand 2
 -- "All others begin kind, x, y"
@@ -301,6 +336,8 @@ claims library = record {
     ended-again = ended-again library;
     data-inside = data-inside library;
     numbered = numbered-of;
+    join-keeps = join-keeps library;
+    long-join = long-join library;
   };
   demand2 = record {
     spelled = spelled;
@@ -323,6 +360,7 @@ claims library = record {
     distinct = distinct;
     profiled = profiled;
     tabled = tabled.indexed;
+    joined = joined;
   };
   sized = calls.sized library;
   demand3 = demand-of library;
@@ -330,6 +368,7 @@ claims library = record {
   index = indexing-of library;
   index-refused = index-refused-of library;
   opening = index-laws.opening library;
+  joins = joins-of library;
   block-bytes = block-bytes;
   line-blocks = line-blocks;
   flat = record { frame = flat-frame; next = flat-next; kind = flat-kind; clear = λ st. refl; end = λ st. refl };

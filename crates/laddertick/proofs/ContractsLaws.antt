@@ -101,7 +101,7 @@ step-inside s st w =
 pub trace-long : (s : List ℕ) → longest < length s → trace epl s (stateOf fresh) ≡ refuses 14 0
 trace-long s h = trace-is epl reads s (stateOf fresh) ∙ ap (onAnswer epl (trace epl s)) (step-long epl s (stateOf fresh) h)
 
-outcome-long : (s : List ℕ) → longest < length s → outcomeOf s ≡ refusal-of 14 0
+pub outcome-long : (s : List ℕ) → longest < length s → outcomeOf s ≡ refusal-of 14 0
 outcome-long s h = ap (λ (x : EplTrace). ending (final x) (labelsIn epl (List ℕ) frameOf s [] x)) (trace-long s h)
 
 -- ---- answers of the code

@@ -3,6 +3,7 @@ pub mod Starred
 pub mod Distinct
 pub mod Profiled
 pub mod Indexed
+pub mod Joined
 -- `LE` beside `LO`
 pub mod ColouredLaws
 -- data lies inside; sizes and ratios are those of an element's fields
@@ -14,6 +15,8 @@ pub mod WalkedLaws
 pub mod ContractsLaws
 -- the label index
 pub mod IndexLaws
+-- two files joined
+pub mod JoinedLaws
 -- the code
 pub mod Proved
 -- the claims

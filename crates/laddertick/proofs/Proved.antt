@@ -8,6 +8,7 @@ use Rattle.strict.proofs.check.check.Met as check
 use Rattle.strict.proofs.listing.strict_list.Met as strict-list
 use Rattle.index.proofs.labels.index.Met as index
 use Rattle.opening.proofs.label.open_label.Met as open-label
+use Rattle.joining.proofs.join.join.Met as join
 use Rattle.laddertick.specs.Proved.{Proved}
 
 pub proved : Proved
@@ -28,4 +29,6 @@ proved = record {
   strict-list-owes = λ κs a r z p. p;
   index-says = λ M 𝓤 H A mem run κs a g. (refl, λ r z. refl);
   open-label-says = λ M 𝓤 H A mem run κs a g. (refl, λ r z. refl);
+  join = join.met;
+  join-owes = λ κs a r z p. p;
 }

@@ -41,13 +41,13 @@ next-on (End w) st h = absurd (over≢on h)
 next-on (Refused w k p) st h = absurd (over≢on h)
 
 -- ---- one walk
-next-differs : {z : Final} {w : WalkState} → _≡_ {A = Next} (over z) (on-from w) → ⊥
+pub next-differs : {z : Final} {w : WalkState} → _≡_ {A = Next} (over z) (on-from w) → ⊥
 next-differs e = let z : _≡_ {A = ℕ} 0 1 = cc in omega arith
 
-same-over : {y z : Final} → _≡_ {A = Next} (over y) (over z) → y ≡ z
+pub same-over : {y z : Final} → _≡_ {A = Next} (over y) (over z) → y ≡ z
 same-over e = cc
 
-same-next : {v w : WalkState} → _≡_ {A = Next} (on-from v) (on-from w) → v ≡ w
+pub same-next : {v w : WalkState} → _≡_ {A = Next} (on-from v) (on-from w) → v ≡ w
 same-next e = cc
 
 module _ (f : WalkState → Answer) where

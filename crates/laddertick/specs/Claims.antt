@@ -1,5 +1,5 @@
--- What is claimed of the entry points `step`, `list`, `normalise`, `check`, `strict_list`, `index` and `open_label`: of
--- any functions that meet their contracts (`Library`), as the code is proved to (`Proved`).
+-- What is claimed of the entry points: of any functions that meet their contracts (`Library`), as the code is proved
+-- to (`Proved`).
 -- Read first; each name leads to its definition. Quoted words are those of the three demands, or of 01.
 use mathlib.Core.Path.{_≡_}
 use mathlib.Core.Bool.{true, false}
@@ -64,7 +64,7 @@ use Rattle.strict.specs.declared.verdict.Checked.{Checked}
 use Rattle.index.specs.declared.entry.LabelEntry.{LabelEntry}
 use Rattle.index.specs.declared.labels.Indexed.the-variants as indexed
 use Rattle.index.specs.Entries.{entriesOf}
-use Rattle.laddertick.specs.Contracts.{Library, Filling, Denies, Gives, DeniesList, GivesEntries}
+use Rattle.laddertick.specs.Contracts.{Library, Filling, Denies, Gives, DeniesList, GivesEntries, JoinDenies, JoinGives}
 use Rattle.laddertick.specs.Proved.{Proved}
 use Rattle.laddertick.specs.Walked.{Walked, answered, Outside}
 use Rattle.laddertick.specs.Coloured.{Coloured}
@@ -74,6 +74,7 @@ use Rattle.laddertick.specs.Starred as starred
 use Rattle.laddertick.specs.Distinct as distinct
 use Rattle.laddertick.specs.Profiled as profiled
 use Rattle.laddertick.specs.Indexed as tabled
+use Rattle.laddertick.specs.Joined as joined
 
 -- "the string divides end to end into graphic blocks and command lines by 01's grammar with every position and size
 -- within signed 32 bits", and has these labels and n elements pending at its end
@@ -105,6 +106,7 @@ pub record Demand1 (library : Library) : Type 0 where
       → library .index s l .answer ≡ indexed.Refused k p → library .index s l .list ≡ l
   pub open-keeps : (s : List ℕ) (es : List LabelEntry) (i : ℕ) (l : List ℕ) (k : Refusal) (p : ℕ)
       → library .open-label s es i l .answer ≡ filled.Refused k p → library .open-label s es i l .buffer ≡ l
+  pub join-keeps : (s t l : List ℕ) → (library .join s t l .answer .number ≡ 0 → ⊥) → library .join s t l .buffer ≡ l
   -- "14 input over 16,777,216 bytes (place 0)", whatever the state and the buffer: "Order: 14, .."
   pub long-step : (s : List ℕ) (w : WalkState) → longest < length s
       → answerOf (library .step s w) ≡ refused 14 0 (stateOf w)
@@ -116,6 +118,8 @@ pub record Demand1 (library : Library) : Type 0 where
   pub long-index : (s : List ℕ) (l : List LabelEntry) → longest < length s → DeniesList 14 0 l (library .index s l)
   pub long-open : (s : List ℕ) (es : List LabelEntry) (i : ℕ) (l : List ℕ) → longest < length s
       → Denies 14 0 l (library .open-label s es i l)
+  -- of the first file, whatever the second is, and of the second where the first is accepted (`joins`)
+  pub long-join : (s t l : List ℕ) → longest < length s → JoinDenies 14 1 0 l (library .join s t l)
   -- ".. 16 ..": "walk state with its place past the end, or its pending count above its place (place: as given)",
   -- whatever the string says
   pub outside : (s : List ℕ) (w : WalkState) → length s ≤ longest → Outside s w
@@ -132,7 +136,7 @@ pub record Demand1 (library : Library) : Type 0 where
   -- the data that a step answers lies within the input, so that a host which reads it stays inside what it lent
   pub data-inside : (s : List ℕ) (w w′ : WalkState) (e : LabelElement) → library .step s w ≡ Element w′ e
       → In (length s) e
-  pub numbered : (k : Refusal) → (1 ≤ numberOf k) × (numberOf k ≤ 21)
+  pub numbered : (k : Refusal) → (1 ≤ numberOf k) × (numberOf k ≤ 25)
 
 -- demand 2: the command forms, from 01's words. The definitions that the code's readers are proved equal to
 -- (`commandOf`, `wellFormed`, `first`, `acts`, `fieldOr`) say the same
@@ -184,6 +188,8 @@ pub record Demand2 : Type 0 where
   pub profiled : Holds profiled.table
   -- and files with their index, and labels opened
   pub tabled : Holds tabled.table
+  -- and pairs of files, joined
+  pub joined : Holds joined.table
 
 -- the normalised text of a string that divides and has these labels and n elements pending at its end
 pub record Normalising (library : Library) (s : List ℕ) (ls : List FramedLabel) (n : ℕ) : Type 0 where
@@ -292,6 +298,39 @@ pub record Opening (library : Library) (s : List ℕ) (es : List LabelEntry) (i 
       → Walked (library .step (take (e .last) s)) (record { place = e .first; reference = e .reference; pending = 0 }) xs z
       → (l : List ℕ) → Opens (answered (take (e .last) s) [] xs) z i l (library .open-label s es i l)
 
+-- 01, "Joining two files", of accepted strings s and t: ls and ms are the labels that the steps over them answer, and k
+-- elements are pending at the end of t
+pub record Joining (library : Library) (s t : List ℕ) (ls ms : List FramedLabel) (k : ℕ) : Type 0 where
+  -- "the first normalised, a line `N`, the second normalised"
+  pub text : List ℕ
+  pub becomes : (us vs : List EplUnit) → Division epl s us → Division epl t vs
+      → (a b : List ℕ) × Becomes us a × Becomes vs b × (text ≡ a ++ spelt "N\n" b)
+  -- it is written where the buffer has room, and 15 gives its length where not
+  pub gives : length text ≤ longest → (l : List ℕ) → JoinGives text l (library .join s t l)
+  -- "25 a joined text over 16,777,216 bytes (place: its length), after both files' refusals and before 15": whatever
+  -- the buffer
+  pub too-long : longest < length text → (l : List ℕ) → JoinDenies 25 0 (length text) l (library .join s t l)
+  -- "The labels of the result are those of the first followed by those of the second, every frame the same"; "Elements
+  -- pending in the first are never printed", nor counted: those pending at the end are the second's
+  pub divides : Divides text (ls ++ ms) k
+  -- so the steps over it answer, where it is within the limit
+  pub accepted-alike : length text ≤ longest → (xs : List Answer) × Walked (library .step text) fresh xs (accepted k)
+      × (answered text [] xs ≡ ls ++ ms)
+  -- "all graphic blocks of both stand in it in order", and no others
+  pub blocks-of-both : (us vs ws : List EplUnit) → Division epl s us → Division epl t vs → Division epl text ws
+      → each blocks ws ≡ each blocks us ++ each blocks vs
+
+-- of any two strings, by the steps over each: "If either file is refused, its number and place are given, the first
+-- file's before the second's", 14 too, whatever the buffer
+pub record Joins (library : Library) (s t : List ℕ) : Type 0 where
+  pub first-refused : (xs : List Answer) (n p : ℕ) → Walked (library .step s) fresh xs (refusal n p)
+      → (l : List ℕ) → JoinDenies n 1 p l (library .join s t l)
+  pub second-refused : (xs ys : List Answer) (m n p : ℕ) → Walked (library .step s) fresh xs (accepted m)
+      → Walked (library .step t) fresh ys (refusal n p) → (l : List ℕ) → JoinDenies n 2 p l (library .join s t l)
+  pub both-accepted : (xs ys : List Answer) (m k : ℕ) → Walked (library .step s) fresh xs (accepted m)
+      → Walked (library .step t) fresh ys (accepted k)
+      → Joining library s t (answered s [] xs) (answered t [] ys) k
+
 -- the flat answers of the static library, a : what `step` answers
 pub record Flat : Type 0 where
   -- an answer of `laddertick_step` rebuilt to 01's frame from its fields alone: an element's, a print's, a refusal's,
@@ -324,6 +363,8 @@ pub record Claims (library : Library) : Type 0 where
   pub index-refused : (s : List ℕ) (xs : List Answer) (n p : ℕ) → length s ≤ longest
       → Walked (library .step s) fresh xs (refusal n p) → (l : List LabelEntry) → DeniesList n p l (library .index s l)
   pub opening : (s : List ℕ) (es : List LabelEntry) (i : ℕ) → length s ≤ longest → Opening library s es i
+  -- two files joined
+  pub joins : (s t : List ℕ) → Joins library s t
   -- a graphic block is its bytes, blanks, `GW`, four fields and payload; a line has none
   pub block-bytes : (bs p : List ℕ) (h : Header) → blocks (block bs h p)
       ≡ (bs ++ spelt "GW" (h .x ++ spelt "," (h .y ++ spelt "," (h .width ++ spelt "," (h .lines ++ spelt "," p))))) ∷ []

@@ -1,5 +1,5 @@
--- What the contracts of `step`, `list`, `normalise`, `check`, `strict_list`, `index` and `open_label` say, as types; and
--- any functions that meet them, over which the claims are made. That the code meets them is `Proved`.
+-- What the contracts of the entry points say, as types; and any functions that meet them, over which the claims are
+-- made. That the code meets them is `Proved`.
 use mathlib.Core.Path.{_≡_}
 use mathlib.Core.List.{List, _++_}
 use Prim.Native.Nat.{ℕ, _≤_, _<_}
@@ -21,6 +21,8 @@ use Rattle.index.specs.declared.labels.Indexed.{Indexed}
 use Rattle.index.specs.Plan as plan
 use Rattle.index.specs.Plan.{Indexes, fillingOf, countedOf, counted}
 use Rattle.opening.specs.Opened as opening
+use Rattle.joining.specs.declared.answer.Joined.{Joined}
+use Rattle.joining.specs.Join.{Joins}
 
 -- `step` answers r to the input s and the state w
 abbrev pub Stepped : List ℕ → WalkState → Answer → Type 0
@@ -50,6 +52,15 @@ Entered s l n r = Indexes n l (fillingOf s (length l)) (countedOf r)
 abbrev pub Opened : List ℕ → List LabelEntry → ℕ → List ℕ → List ℕ → Filled → Type 0
 Opened s es i l n r = Fills n l (opening.dueOf s es i) (givenOf r)
 
+-- `join` answers r to the files s and t and the buffer l, which becomes n
+abbrev pub JoinedBy : List ℕ → List ℕ → List ℕ → List ℕ → Joined → Type 0
+JoinedBy s t l n r = Joins n l s t r
+
+-- what a call that joins two files answers, and the buffer afterwards
+pub record Union : Type 0 where
+  pub answer : Joined
+  pub buffer : List ℕ
+
 -- what a call that fills a lent buffer answers, and the buffer afterwards
 pub record Filling : Type 0 where
   pub answer : Filled
@@ -77,6 +88,9 @@ pub record Library : Type 0 where
   pub indexes : (s : List ℕ) (l : List LabelEntry) → Entered s l (index s l .list) (index s l .answer)
   pub opens : (s : List ℕ) (es : List LabelEntry) (i : ℕ) (l : List ℕ)
       → Opened s es i l (open-label s es i l .buffer) (open-label s es i l .answer)
+  -- two files and the buffer
+  pub join : List ℕ → List ℕ → List ℕ → Union
+  pub unites : (s t l : List ℕ) → JoinedBy s t l (join s t l .buffer) (join s t l .answer)
 
 -- ---- what a call did, from its answer and its buffer alone
 
@@ -104,3 +118,13 @@ pub record GivesEntries (es l : List LabelEntry) (c : Entering) : Type 0 where
   pub room : length es ≤ length l
       → (countedOf (c .answer) ≡ counted (length es)) × (c .list ≡ es ++ drop (length es) l)
   pub short : length l < length es → DeniesList 20 (length es) l c
+
+-- the same of two files joined: number, file and place
+abbrev pub JoinDenies : ℕ → ℕ → ℕ → List ℕ → Union → Type 0
+JoinDenies n f p l c = (c .answer ≡ record { number = n; file = f; place = p }) × (c .buffer ≡ l)
+
+-- the text t is written, from the start of l on, where the buffer has room; else 15, which is neither file's
+pub record JoinGives (t l : List ℕ) (c : Union) : Type 0 where
+  pub room : length t ≤ length l
+      → (c .answer ≡ record { number = 0; file = 0; place = length t }) × (c .buffer ≡ t ++ drop (length t) l)
+  pub short : length l < length t → JoinDenies 15 0 (length t) l c

@@ -15,3 +15,5 @@ pub mod Starred
 pub mod Distinct
 pub mod Profiled
 pub mod Indexed
+-- pairs of files, joined
+pub mod Joined

@@ -38,7 +38,10 @@ use Rattle.index.proofs.labels.index.Statement as index
 use Rattle.index.proofs.labels.index as index-fn
 use Rattle.opening.proofs.label.open_label.Statement as open-label
 use Rattle.opening.proofs.label.open_label as open-label-fn
-use Rattle.laddertick.specs.Contracts.{Stepped, Listed, Normalised, Judged, StrictlyListed, Entered, Opened}
+use Rattle.joining.proofs.join.join.Statement as join
+use Rattle.joining.proofs.join.join.Kinds as join-kinds
+use Rattle.joining.proofs.join.join.Reads as join-reads
+use Rattle.laddertick.specs.Contracts.{Stepped, Listed, Normalised, Judged, StrictlyListed, Entered, Opened, JoinedBy}
 
 -- what is said of the arguments, the result and the arguments at exit by the first is said by the second
 abbrev pub Owes : (n : ℕ) (ps : List (PK n)) (r : RK n) → Out n ps r → Out n ps r → Type 0
@@ -80,3 +83,7 @@ pub record Proved : Type 2 where
       (λ κs a r z. Entered (a .0 .now) (a .1 .0 .now) (z .1 .0 .now) r)
   pub open-label-says : Says open-label-fn.ended (λ M. open-label-fn.clauses {M = M})
       (λ κs a r z. Opened (a .0 .now) (a .1 .0 .now) (a .1 .1 .0) (a .1 .1 .1 .0 .now) (z .1 .1 .1 .0 .now) r)
+  -- two files and the buffer
+  pub join : {M : Type 1} → join.statement M
+  pub join-owes : Owes 3 join-kinds.ps join-kinds.r join-reads.Post
+      (λ κs a r z. JoinedBy (a .0 .now) (a .1 .0 .now) (a .1 .1 .0 .now) (z .1 .1 .0 .now) r)

@@ -1,6 +1,6 @@
 -- Tables of computed cases: inputs, each with all that the steps answer from the fresh state on, up to and including
 -- the end or the refusal, or with its normalised text, or with the lines that `list` writes, or with what the profile
--- says of it, or with its index. `Holds`: every row does.
+-- says of it, or with its index; two inputs with what they are joined to. `Holds`: every row does.
 use mathlib.Core.Path.{_≡_}
 use mathlib.Core.List.{List, [], _∷_}
 use Prim.Native.Nat.{ℕ, zero, suc}
@@ -22,6 +22,7 @@ use Rattle.strict.specs.Listing.{strictDueOf}
 use Rattle.index.specs.declared.entry.LabelEntry.{LabelEntry}
 use Rattle.index.specs.Plan.{EplFilling, fillingOf}
 use Rattle.opening.specs.Opened as opening
+use Rattle.joining.specs.Join.{fileOf, joinDueOf}
 
 abbrev pub EplState : Type 0
 EplState = State LabelPosition
@@ -57,6 +58,8 @@ pub data Case : Type 0 where
   strictly : List ℕ → Due → Case
   indexes : List ℕ → ℕ → EplFilling → Case
   opens : List ℕ → List LabelEntry → ℕ → Due → Case
+  -- two inputs, with the file that is refused, and what is due to `join`
+  joins : List ℕ → List ℕ → ℕ → Due → Case
 
 -- every row of a table holds
 abbrev pub Holds : List Case → Type 0
@@ -68,6 +71,7 @@ Holds (judges s c ∷ cs) = (checkedOf s ≡ c) × Holds cs
 Holds (strictly s d ∷ cs) = (strictDueOf s ≡ d) × Holds cs
 Holds (indexes s m f ∷ cs) = (fillingOf s m ≡ f) × Holds cs
 Holds (opens s es i d ∷ cs) = (opening.dueOf s es i ≡ d) × Holds cs
+Holds (joins s t f d ∷ cs) = ((fileOf s t ≡ f) × (joinDueOf s t ≡ d)) × Holds cs
 
 -- How the rows are written, in characters:
 abbrev pub case : String → List EplAnswer → Case

@@ -1,6 +1,6 @@
 // The host's entry points: a walk a step at a time, the listing of a file, and its normalised text; the well-site
-// profile's verdict on a file, and its listing under the profile; the label index, and one label opened; with every type
-// that a host is handed. What is claimed of them stands in specs/Claims.antt.
+// profile's verdict on a file, and its listing under the profile; the label index, and one label opened; two files joined;
+// with every type that a host is handed. What is claimed of them stands in specs/Claims.antt.
 pub use elements::Barcode2of5;
 pub use elements::Barcode2of5WithData;
 pub use elements::Barcode39;
@@ -46,6 +46,8 @@ pub use frames::listing::list;
 pub use index::entry::LabelEntry;
 pub use index::labels::Indexed;
 pub use index::labels::index;
+pub use joining::answer::Joined;
+pub use joining::join::join;
 pub use opening::label::open_label;
 pub use strict::check::check;
 pub use strict::listing::strict_list;

@@ -17,6 +17,7 @@ use Rattle.strict.specs.Verdict.{checkedOf}
 use Rattle.strict.specs.Listing.{strictDueOf}
 use Rattle.index.specs.Plan.{Indexes, fillingOf}
 use Rattle.opening.specs.Opened as opening
+use Rattle.joining.specs.Join.{Joins}
 use Rattle.laddertick.specs.Proved.{Owes, Says}
 use Rattle.laddertick_c.proofs.laddertick_start.Statement as start
 use Rattle.laddertick_c.proofs.laddertick_start.Kinds as start-kinds
@@ -52,6 +53,10 @@ use Rattle.laddertick_c.proofs.laddertick_index.Met as index-met
 use Rattle.laddertick_c.proofs.laddertick_open as open-fn
 use Rattle.laddertick_c.proofs.laddertick_open.Statement as open-label
 use Rattle.laddertick_c.proofs.laddertick_open.Met as open-met
+use Rattle.laddertick_c.proofs.laddertick_join.Statement as join
+use Rattle.laddertick_c.proofs.laddertick_join.Kinds as join-kinds
+use Rattle.laddertick_c.proofs.laddertick_join.Reads as join-reads
+use Rattle.laddertick_c.proofs.laddertick_join.Met as join-met
 
 pub record Proved : Type 2 where
   pub start : {M : Type 1} → start.statement M
@@ -73,6 +78,9 @@ pub record Proved : Type 2 where
   pub strict-list-owes : Owes 2 strict-list-kinds.ps strict-list-kinds.r strict-list-reads.Post (λ κs a r z. Fills (z .1 .0 .now) (a .1 .0 .now) (strictDueOf (a .0 .now)) (givenFlat r))
   pub index-says : Says index-fn.ended (λ M. index-fn.clauses {M = M}) (λ κs a r z. Indexes (z .1 .0 .now) (a .1 .0 .now) (fillingOf (a .0 .now) (length (a .1 .0 .now))) (countedFlat r))
   pub open-label-says : Says open-fn.ended (λ M. open-fn.clauses {M = M}) (λ κs a r z. Fills (z .1 .1 .1 .0 .now) (a .1 .1 .1 .0 .now) (opening.dueOf (a .0 .now) (a .1 .0 .now) (a .1 .1 .0)) (givenFlat r))
+  pub join : {M : Type 1} → join.statement M
+  pub join-owes : Owes 3 join-kinds.ps join-kinds.r join-reads.Post
+      (λ κs a r z. Joins (z .1 .1 .0 .now) (a .1 .1 .0 .now) (a .0 .now) (a .1 .0 .now) r)
 
 pub proved : Proved
 proved = record {
@@ -94,4 +102,6 @@ proved = record {
   strict-list-owes = λ κs a r z p. p;
   index-says = λ M 𝓤 H A mem run κs a g. (refl, λ r z. refl);
   open-label-says = λ M 𝓤 H A mem run κs a g. (refl, λ r z. refl);
+  join = join-met.met;
+  join-owes = λ κs a r z p. p;
 }

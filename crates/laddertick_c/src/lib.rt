@@ -9,6 +9,7 @@ ghost use Rattle.flat.specs.Written.{givenFlat, countedFlat};
 ghost use Rattle.format.specs.Normalise as normalise;
 ghost use Rattle.frames.specs.Listing as listing;
 ghost use Rattle.index.specs.Plan.{Indexes, fillingOf};
+ghost use Rattle.joining.specs.Join.{Joins};
 ghost use Rattle.opening.specs.Opened as opening;
 ghost use Rattle.strict.specs.Verdict.{checkedOf};
 ghost use Rattle.strict.specs.Listing.{strictDueOf};
@@ -23,10 +24,12 @@ use flat::written::Written;
 use flat::written::of_filled;
 use flat::written::of_indexed;
 use laddertick::Checked;
+use laddertick::Joined;
 use laddertick::LabelEntry;
 use laddertick::WalkState;
 use laddertick::check;
 use laddertick::index;
+use laddertick::join;
 use laddertick::list;
 use laddertick::normalise;
 use laddertick::open_label;
@@ -112,4 +115,13 @@ pub extern "C" fn laddertick_open(
     ensures { λ r. ⌜ Fills (now (out .exit)) (now (out .entry)) (opening.dueOf (now (input .entry)) (now (entries .entry)) number) (givenFlat r) ⌝ }
 {
     of_filled(open_label(input, entries, number, out))
+}
+
+// The first file normalised, a line `N` and the second normalised, from the start of out; or a refusal that leaves out as
+// it came, and which file was refused.
+#[no_mangle]
+pub extern "C" fn laddertick_join(first: &[u8], second: &[u8], out: &mut [u8]) -> Joined
+    ensures { λ r. ⌜ Joins (now (out .exit)) (now (out .entry)) (now (first .entry)) (now (second .entry)) r ⌝ }
+{
+    join(first, second, out)
 }

@@ -16,7 +16,7 @@ use walk::answer::Answer;
 use walk::step::step;
 
 // How the plain walk ends.
-fn plain(input: &[u8]) -> Checked
+pub fn plain(input: &[u8]) -> Checked
     ensures { λ r. ⌜ r ≡ plainly (endOf (now (input .entry)) fresh) ⌝ }
 {
     let mut here = start();

@@ -15,3 +15,4 @@ pub mod NextLaws
 pub mod UnrefusedLaws
 pub mod IndexingLaws
 pub mod Cases
+pub mod Join

@@ -22,3 +22,5 @@ pub mod Next
 pub mod Claims
 -- 01, "The well-site profile": a strict reading of a language of units
 pub mod Strict
+-- joining two runs
+pub mod Join

@@ -47,5 +47,5 @@ returns-3 c =
 pub normalise-spec : {M : Type 1} → statement M
 normalise-spec =
     tie.close (tie.spec returns (λ c κs. search needs) (λ c κs. search needs)
-    returns-2 (λ c κs. fits (c .before)) (λ c. search needs)
+    returns-2 (λ c κs. omega (arith, fits (c .before))) (λ c. search needs)
     returns-3)

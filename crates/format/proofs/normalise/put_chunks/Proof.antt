@@ -15,10 +15,10 @@ use Rattle.format.proofs.normalise.put_chunks.Statement.{statement}
 use Rattle.format.proofs.normalise.put_chunks.Tie as tie
 
 abbrev Inv-loop : tie.InvT-loop
-Inv-loop input out₀ at₀ to₀ out at to = (at ≤ length input) × Toward out to (normalised (drop at input)) out₀ 0 (normalised input)
+Inv-loop input out₀ from at₀ to₀ out at to = (at ≤ length input) × Toward out to (normalised (drop at input)) out₀ from (normalised input)
 
 abbrev μ-loop : tie.MeasureT-loop
-μ-loop input out₀ at₀ to₀ out at to = length input - at
+μ-loop input out₀ from at₀ to₀ out at to = length input - at
 
 -- what stands first is known: the loop that it is in, the input, and the place
 module _ (d : tie.After-block-len Inv-loop μ-loop) where

@@ -1,0 +1,3 @@
+// Two files joined: the first normalised, a line `N`, the second normalised.
+pub mod answer;
+pub mod join;

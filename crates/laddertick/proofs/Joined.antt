@@ -1,0 +1,29 @@
+-- Every row of the table of pairs of files holds (`joined`), by computation. Assumes nothing.
+use mathlib.Core.Path.{refl}
+use Rattle.text.specs.Fields.{before, after, beforeLast, fields, withoutTrailingCommas}
+use Rattle.numbers.specs.Number.{numberSpelled}
+use Rattle.parameters.specs.FieldValues.{sizeOr, pointOf, exactly}
+use Rattle.parameters.specs.Position.{placed}
+use Rattle.parameters.specs.Rotation.{rotationOf}
+use Rattle.texts.specs.Font.{cellOf, fontOf}
+use Rattle.texts.specs.Text.{textFields, textElement, textReading}
+use Rattle.draws.specs.Draw.{lineFields, lineElement, lineReading, cornersAt, sizedAt, drawnAt, diagonalReading, boxReading}
+use Rattle.graphics.specs.Block.{opensGw, closes, afterHeaderField, headerNumber, fourClosed, payloadOf, gwNumbers, measured, gwSpan}
+use Rattle.spelling.specs.Command.{isReference, isPrint, commandOf}
+use Rattle.spelling.specs.Print.{isCounts, countsOf}
+use Rattle.spelling.specs.Reference.{referenceOf}
+use Rattle.commands.specs.Line.{paramsOf, quotedReading, readLine}
+use Rattle.whole.specs.Step.{handing, answer, step}
+use Rattle.whole.specs.Trace.{trace}
+use Rattle.element_frames.specs.Frame.{be32, head, extentBytes, fieldBytes, frameOf, labelFrame}
+use Rattle.grammar.specs.WellFormed.{wellFormed, faultOf}
+use Rattle.grammar.specs.Found.{first}
+use Rattle.grammar.specs.Normal.{chunk, normalised}
+use Rattle.laddertick.specs.Table.{Holds}
+use Rattle.laddertick.specs.Joined.{table}
+
+-- a proof for each row, in the table's order
+pub joined : Holds table
+unfolding before after beforeLast fields withoutTrailingCommas numberSpelled sizeOr pointOf exactly placed rotationOf isReference isCounts isPrint commandOf countsOf referenceOf cellOf fontOf textFields textElement textReading lineFields lineElement lineReading cornersAt sizedAt drawnAt diagonalReading boxReading paramsOf quotedReading readLine opensGw closes afterHeaderField headerNumber fourClosed payloadOf gwNumbers measured gwSpan handing answer step wellFormed faultOf first chunk normalised trace be32 head extentBytes fieldBytes frameOf labelFrame
+joined =
+    ((refl, refl), (refl, ((refl, refl), (refl, ((refl, refl), (refl, ((refl, refl), (refl, ((refl, refl), ((refl, refl), ((refl, refl), ((refl, refl), ((refl, refl), tt)))))))))))))
