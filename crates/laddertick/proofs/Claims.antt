@@ -1,7 +1,7 @@
 -- The claims hold of any functions that meet the contracts (`theorem`). Assumes nothing.
 use mathlib.Core.Path.{_≡_, refl, sym, ap, subst, _∙_}
 use mathlib.Core.Bool.{false}
-use mathlib.Core.List.{List, [], _++_, map}
+use mathlib.Core.List.{List, [], _++_, _∷_, _++_, map}
 use mathlib.Core.Logic.{_↔_, _⊎_, inl, inr}
 use Prim.Native.Nat.{ℕ, zero, suc, _≤_, _<_}
 use native.Mathlib.Omega.{arith}
@@ -18,7 +18,7 @@ use Rattle.element_frames.proofs.FrameLaws.{frame-local}
 use Rattle.elements.specs.Given.{longest}
 use Rattle.whole.specs.Division.{Division}
 use Rattle.whole.specs.Labels as labels-of
-use Rattle.whole.specs.Labels.{labels, labelsOf}
+use Rattle.whole.specs.Labels.{flush, labels, labelsOf}
 use Rattle.whole.specs.Reach as theory
 use Rattle.whole.specs.Reach.{Final, accepted, refusal}
 use Rattle.whole.specs.Normal.{each, Normal}
@@ -53,6 +53,10 @@ use Rattle.grammar.proofs.Normalises.{normalises}
 use Rattle.grammar.proofs.BecomesLaws.{becomes}
 use Rattle.grammar.proofs.WellFormedLaws.{ill-formed, well-formed-range}
 use Rattle.grammar.proofs.EplLaws.{inside}
+use Rattle.changes.specs.OneLine.{Ending, unitOf, Replaced}
+use Rattle.changes.proofs.LineLaws.{next-of, unit-role}
+use Rattle.changes.proofs.OneLineLaws as changes
+use Rattle.changes.proofs.OneLineLaws.{old-division, new-division}
 use Rattle.walk.specs.declared.answer.Answer.{Answer}
 use Rattle.walk.specs.Steps.{answerOf}
 use Rattle.flat.proofs.FramesLaws.{flat-frame, flat-kind, flat-next}
@@ -73,7 +77,7 @@ use Rattle.joining.proofs.JoinLaws.{due-first, due-second, due-long, due-text}
 use Rattle.joining.proofs.EplLaws.{epl-joins}
 use Rattle.laddertick.specs.Contracts.{Library, Gives, DeniesList}
 use Rattle.laddertick.specs.Walked.{Walked, answered}
-use Rattle.laddertick.specs.Claims.{Divides, Normalising, Demand3, Profile, Indexing, Joining, Joins, Claims, Theorem}
+use Rattle.laddertick.specs.Claims.{Divides, Normalising, Demand3, Profile, Indexing, Joining, Joins, OneLineChanged, Claims, Theorem}
 use Rattle.laddertick.proofs.ColouredLaws.{exclusive-or}
 use Rattle.laddertick.proofs.WalkedLaws.{walked, one-walked, answered-is}
 use Rattle.laddertick.proofs.ContractsLaws.{step-hands-back, list-keeps, normalise-keeps, strict-list-keeps, long-step, long-list, long-normalise, long-check, long-strict-list, outside, end-keeps, ended-again, data-inside, denies}
@@ -87,6 +91,7 @@ use Rattle.laddertick.proofs.Distinct.{distinct}
 use Rattle.laddertick.proofs.Profiled.{profiled}
 use Rattle.laddertick.proofs.Indexed as tabled
 use Rattle.laddertick.proofs.Joined.{joined}
+use Rattle.laddertick.proofs.Changed.{changed}
 
 -- a frame looks only at the bytes of its own unit, wherever they stand
 local : Local epl (List ℕ) frameOf
@@ -278,6 +283,41 @@ module _ (library : Library) where
     both-accepted = λ xs ys m k w v. joining-of s t _ _ m k (walked-lists library s xs (accepted m) w) (walked-lists library t ys (accepted k) v);
   }
 
+  -- ---- one line changed
+  -- an accepted walk answers the labels of a division
+  walked-divides : (s : List ℕ) → length s ≤ longest → (xs : List Answer) (n : ℕ) → Walked (library .step s) fresh xs (accepted n) → labels-of.Divides epl (List ℕ) frameOf s origin (answered s [] xs) n
+  walked-divides s short xs n w =
+      let o = one-walked (library .step s) (byCode s short .1) w in
+      let d = theWalk s short .accepted→divides n (o .1) in
+      let a = theWalk s short .divides→accepted (d .0) n (d .1) .1 in
+      subst (λ (ls : List FramedLabel). labels-of.Divides epl (List ℕ) frameOf s origin ls n) (sym a ∙ code-answered s short ∙ ap (answered s []) (o .0)) (d .1)
+
+  one-line-of : (s s′ t t′ : List ℕ) (e : Ending) (before : List EplUnit) → Replaced s s′ t t′ e before → length s ≤ longest → length s′ ≤ longest → (xs xs′ : List Answer) (n n′ : ℕ)
+      → Walked (library .step s) fresh xs (accepted n) → Walked (library .step s′) fresh xs′ (accepted n′) → OneLineChanged s s′ t t′ e before (answered s [] xs) (answered s′ [] xs′) n n′
+  unfolding flush
+  one-line-of s s′ t t′ e before r short short′ xs xs′ n n′ w w′ = record {
+    behind = k .0;
+    old-division = k .1;
+    new-division = new-division s s′ t t′ e before r (k .0) (k .1) (List ℕ) frameOf (d′ .division);
+    next = next-of (k .0);
+    dropped = changes.stays (List ℕ) frameOf s s′ t t′ e before r (k .0) (k .1) (answered s [] xs) (answered s′ [] xs′) n n′ d d′;
+    printed = changes.in-label (List ℕ) frameOf s s′ t t′ e before r (k .0) (k .1) (answered s [] xs) (answered s′ [] xs′) n n′ d d′;
+    not-listed = λ q. refl;
+    is-listed = λ q f fs. refl;
+    yields-or-not = (unit-role e t (r .old-line), unit-role e t′ (r .new-line));
+    counted = changes.counted (List ℕ) frameOf s s′ t t′ e before r (k .0) (k .1) (answered s [] xs) (answered s′ [] xs′) n n′ d d′;
+    pending = changes.at-end (List ℕ) frameOf s s′ t t′ e before r (k .0) (k .1) (answered s [] xs) (answered s′ [] xs′) n n′ d d′;
+  }
+    where
+      d : labels-of.Divides epl (List ℕ) frameOf s origin (answered s [] xs) n
+      d = walked-divides s short xs n w
+
+      d′ : labels-of.Divides epl (List ℕ) frameOf s′ origin (answered s′ [] xs′) n′
+      d′ = walked-divides s′ short′ xs′ n′ w′
+
+      k : (behind : List EplUnit) × Division epl s (before ++ unitOf e t ∷ behind)
+      k = old-division s s′ t t′ e before r (d .division)
+
 -- ---- demand 1: the numbers of refusals
 numbered-of : (k : Refusal) → (1 ≤ numberOf k) × (numberOf k ≤ 25)
 numbered-of TextFields = (omega arith, omega arith)
@@ -361,6 +401,7 @@ claims library = record {
     profiled = profiled;
     tabled = tabled.indexed;
     joined = joined;
+    changed = changed;
   };
   sized = calls.sized library;
   demand3 = demand-of library;
@@ -369,6 +410,7 @@ claims library = record {
   index-refused = index-refused-of library;
   opening = index-laws.opening library;
   joins = joins-of library;
+  one-line = one-line-of library;
   block-bytes = block-bytes;
   line-blocks = line-blocks;
   flat = record { frame = flat-frame; next = flat-next; kind = flat-kind; clear = λ st. refl; end = λ st. refl };

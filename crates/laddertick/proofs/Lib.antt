@@ -4,6 +4,7 @@ pub mod Distinct
 pub mod Profiled
 pub mod Indexed
 pub mod Joined
+pub mod Changed
 -- `LE` beside `LO`
 pub mod ColouredLaws
 -- data lies inside; sizes and ratios are those of an element's fields

@@ -75,6 +75,11 @@ use Rattle.laddertick.specs.Distinct as distinct
 use Rattle.laddertick.specs.Profiled as profiled
 use Rattle.laddertick.specs.Indexed as tabled
 use Rattle.laddertick.specs.Joined as joined
+use Rattle.laddertick.specs.Changed as changed
+use Rattle.spelling.specs.declared.command.Command.the-variants.{Clear, Print}
+use Rattle.whole.specs.Labels.{flush}
+use Rattle.grammar.specs.Epl.{EplPrint}
+use Rattle.changes.specs.OneLine.{Ending, unitOf, Replaced, Quiet, Is, Between, Next, saysOf, atHand, InLabel, Counted}
 
 -- "the string divides end to end into graphic blocks and command lines by 01's grammar with every position and size
 -- within signed 32 bits", and has these labels and n elements pending at its end
@@ -190,6 +195,8 @@ pub record Demand2 : Type 0 where
   pub tabled : Holds tabled.table
   -- and pairs of files, joined
   pub joined : Holds joined.table
+  -- and files in which one line is changed, listed before and after
+  pub changed : Holds changed.table
 
 -- the normalised text of a string that divides and has these labels and n elements pending at its end
 pub record Normalising (library : Library) (s : List ℕ) (ls : List FramedLabel) (n : ℕ) : Type 0 where
@@ -344,6 +351,43 @@ pub record Flat : Type 0 where
   pub clear : (st : State LabelPosition) → flatOf (cleared st) .kind ≡ 17
   pub end : (st : State LabelPosition) → flatOf (ended st) .kind ≡ 18
 
+-- 01, "One line changed", of two accepted files that are alike but for one command line behind the units `before`, t in
+-- s and t′ in s′, both with the ending e (`Replaced`); ls and ls′ are the labels answered, n and n′ elements are pending
+-- at the end
+pub record OneLineChanged (s s′ t t′ : List ℕ) (e : Ending) (before : List EplUnit) (ls ls′ : List FramedLabel)
+    (n n′ : ℕ) : Type 0 where
+  -- both divide alike but for the line, also behind it
+  pub behind : List EplUnit
+  pub old-division : Division epl s (before ++ unitOf e t ∷ behind)
+  pub new-division : Division epl s′ (before ++ unitOf e t′ ∷ behind)
+  -- behind the line an `N` comes first, or a print line ("a line that spells one", also where it prints nothing), or
+  -- the end
+  pub next : Next behind
+  -- "Where an `N` stands between the line and the next print line or the end, every frame stays"
+  pub dropped : (between : List EplUnit) (c : EplUnit) (later : List EplUnit) → behind ≡ between ++ c ∷ later
+      → Between between → Is Clear c → (ls ≡ ls′) × (n ≡ n′)
+  -- "all other labels keep their frames, and in the label at hand all other elements keep theirs in order": where the
+  -- print line c comes first, both files have the labels before the line and those behind c, and between them the label
+  -- that c prints: what is pending before the line, what the line yields, what stands between it and c
+  pub printed : (between : List EplUnit) (c : EplUnit) (later : List EplUnit) → behind ≡ between ++ c ∷ later
+      → Between between → Is Print c
+      → InLabel frameOf before (unitOf e t) (unitOf e t′) between (saysOf c) ls ls′ × (n ≡ n′)
+  -- "a label with no element left is not listed, and one that gains its first element is", with the number of its
+  -- elements in frame 00
+  pub not-listed : (q : EplPrint) → flush {F = List ℕ} q [] ≡ []
+  pub is-listed : (q : EplPrint) (f : List ℕ) (fs : List (List ℕ))
+      → flush q (f ∷ fs) ≡ record { count = length (f ∷ fs); says = q; frames = f ∷ fs } ∷ []
+  -- each of the two lines yields an element or is passed over, by the command that it spells
+  pub yields-or-not : Quiet (roleOf (unitOf e t)) × Quiet (roleOf (unitOf e t′))
+  -- "if both lines yield an element, or neither does, the count in frame 00 stays too. If only one yields, it differs
+  -- by one"
+  pub counted : (between : List EplUnit) → Counted frameOf before (unitOf e t) (unitOf e t′) between
+  -- "Pending elements at the end are counted in the same way": where the end comes first no label changes
+  pub pending : Between behind
+      → (ls ≡ labelsBy frameOf origin [] before) × (ls′ ≡ labelsBy frameOf origin [] before)
+      × (n ≡ length (atHand frameOf before (unitOf e t) behind))
+      × (n′ ≡ length (atHand frameOf before (unitOf e t′) behind))
+
 pub record Claims (library : Library) : Type 0 where
   -- "inputs up to 16,777,216 bytes"; "the fresh state is place 0, reference 0,0, pending count 0"
   pub limit : longest ≡ 16777216
@@ -365,6 +409,11 @@ pub record Claims (library : Library) : Type 0 where
   pub opening : (s : List ℕ) (es : List LabelEntry) (i : ℕ) → length s ≤ longest → Opening library s es i
   -- two files joined
   pub joins : (s t : List ℕ) → Joins library s t
+  -- one line changed: the steps reach the end of both files
+  pub one-line : (s s′ t t′ : List ℕ) (e : Ending) (before : List EplUnit) → Replaced s s′ t t′ e before
+      → length s ≤ longest → length s′ ≤ longest → (xs xs′ : List Answer) (n n′ : ℕ)
+      → Walked (library .step s) fresh xs (accepted n) → Walked (library .step s′) fresh xs′ (accepted n′)
+      → OneLineChanged s s′ t t′ e before (answered s [] xs) (answered s′ [] xs′) n n′
   -- a graphic block is its bytes, blanks, `GW`, four fields and payload; a line has none
   pub block-bytes : (bs p : List ℕ) (h : Header) → blocks (block bs h p)
       ≡ (bs ++ spelt "GW" (h .x ++ spelt "," (h .y ++ spelt "," (h .width ++ spelt "," (h .lines ++ spelt "," p))))) ∷ []

@@ -9,7 +9,7 @@ pub mod Sized
 -- the code, and the contracts that it is proved to meet
 pub mod Proved
 -- tables of computed cases: 01, "Corners", the starred ones; each command and type with distinct fields; the well-site
--- profile
+-- profile; one line changed
 pub mod Table
 pub mod Starred
 pub mod Distinct
@@ -17,3 +17,4 @@ pub mod Profiled
 pub mod Indexed
 -- pairs of files, joined
 pub mod Joined
+pub mod Changed

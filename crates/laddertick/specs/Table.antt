@@ -1,8 +1,9 @@
 -- Tables of computed cases: inputs, each with all that the steps answer from the fresh state on, up to and including
 -- the end or the refusal, or with its normalised text, or with the lines that `list` writes, or with what the profile
--- says of it, or with its index; two inputs with what they are joined to. `Holds`: every row does.
+-- says of it, or with its index; two inputs with what they are joined to; an input before and after one line is changed.
+-- `Holds`: every row does.
 use mathlib.Core.Path.{_≡_}
-use mathlib.Core.List.{List, [], _∷_}
+use mathlib.Core.List.{List, [], _∷_, _++_}
 use Prim.Native.Nat.{ℕ, zero, suc}
 use Prim.Native.String.{String}
 use Rattle.elements.specs.declared.LabelPosition.{LabelPosition}
@@ -48,8 +49,8 @@ abbrev pub answers : List ℕ → List EplAnswer
 answers s = answersOf (suc (left s fresh)) s fresh
 
 -- an input with all that is answered to it, with its normalised text, with its listing, with the profile's verdict on
--- it, or with what is due to `strict_list`; with its index, for a list of so many entries; with what opening one of these
--- entries by its number is due
+-- it, with what is due to `strict_list`; with its index, for a list of so many entries; with what opening one of these
+-- entries by its number is due, or with its listing before and after one line is changed
 pub data Case : Type 0 where
   says : List ℕ → List EplAnswer → Case
   becomes : List ℕ → List ℕ → Case
@@ -60,6 +61,8 @@ pub data Case : Type 0 where
   opens : List ℕ → List LabelEntry → ℕ → Due → Case
   -- two inputs, with the file that is refused, and what is due to `join`
   joins : List ℕ → List ℕ → ℕ → Due → Case
+  -- a file in three parts with its listing, and the listing where the middle part is another
+  changes : List ℕ → List ℕ → List ℕ → List ℕ → List ℕ → List ℕ → Case
 
 -- every row of a table holds
 abbrev pub Holds : List Case → Type 0
@@ -72,6 +75,8 @@ Holds (strictly s d ∷ cs) = (strictDueOf s ≡ d) × Holds cs
 Holds (indexes s m f ∷ cs) = (fillingOf s m ≡ f) × Holds cs
 Holds (opens s es i d ∷ cs) = (opening.dueOf s es i ≡ d) × Holds cs
 Holds (joins s t f d ∷ cs) = ((fileOf s t ≡ f) × (joinDueOf s t ≡ d)) × Holds cs
+Holds (changes front old new back was is ∷ cs) =
+    (dueOf (front ++ (old ++ back)) ≡ text was) × (dueOf (front ++ (new ++ back)) ≡ text is) × Holds cs
 
 -- How the rows are written, in characters:
 abbrev pub case : String → List EplAnswer → Case

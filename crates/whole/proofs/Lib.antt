@@ -16,3 +16,4 @@ pub mod UnrefusedLaws
 pub mod IndexingLaws
 pub mod Cases
 pub mod Join
+pub mod Change

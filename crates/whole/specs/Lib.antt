@@ -24,3 +24,5 @@ pub mod Claims
 pub mod Strict
 -- joining two runs
 pub mod Join
+-- 01, "One line changed", of any language of units
+pub mod Change

@@ -1,0 +1,2 @@
+-- 01, "One line changed"
+pub mod OneLine
