@@ -58,7 +58,9 @@ enum {
     LADDERTICK_SIZE_OUT_OF_RANGE = 19,
     /* The host again, with the label index: */
     LADDERTICK_TOO_MANY_LABELS = 20, /* more labels than entries are lent; the place is the label count */
-    LADDERTICK_NO_SUCH_LABEL = 21    /* a number past the list, or an entry that yields no label; the place is the number */,
+    LADDERTICK_NO_SUCH_LABEL = 21,   /* a number past the list, or an entry that yields no label; the place is the number */
+    /* The host, with what lies where: */
+    LADDERTICK_RECTANGLE_TURNED = 22, /* a rectangle whose far corner is below its near one on either axis; the place is 0 */
     /* The host, by laddertick_join alone: a joined text of more than LADDERTICK_LONGEST bytes; the place is its length. */
     LADDERTICK_JOINED_TOO_LONG = 25
 };
@@ -256,6 +258,32 @@ typedef struct laddertick_joined {
    read whole before anything is written, and may be the same or overlap; neither may overlap out. n + n / 6 + m + m / 6 + 4 bytes are always enough for n and m.
    Refusals: those of laddertick_step for the first file, then those for the second, 14 too; then 25; then 15. */
 laddertick_joined laddertick_join(const uint8_t *first, size_t first_len, const uint8_t *second, size_t second_len, uint8_t *out, size_t out_len);
+
+/* ---- what lies where on one label ---- */
+
+/* A closed rectangle: its near corner and its far one. Its edges belong to it. */
+typedef struct laddertick_rectangle {
+    int32_t x1;
+    int32_t y1;
+    int32_t x2;
+    int32_t y2;
+} laddertick_rectangle;
+
+/* The elements of one label whose position lies in a rectangle: their numbers, from 0 in the label and in file order, from the start of the list. Elements that an N
+   dropped have none. The label is opened as laddertick_open does it, from `entries` and `number`. number 0: `place` is how many were found, and what stands behind
+   them in the list keeps its values. Else a refusal, and the list is as it came; to learn how many there are lend 0 numbers, and 15 gives it.
+   Refusals, in this order: 14; 22; those of laddertick_open (21, 16, 1 to 13 and 19, 21); 15, whose place is how many were found. */
+laddertick_written laddertick_inside(const uint8_t *input, size_t input_len, const laddertick_entry *entries, size_t entries_len, size_t number, laddertick_rectangle r,
+                                     size_t *list, size_t list_len);
+
+/* As laddertick_inside, but the boxes and diagonals whose own closed rectangle, from position to position plus width and height, shares a point with r. Thickness has
+   no part in it. A far edge may lie past 32 bits. */
+laddertick_written laddertick_touching(const uint8_t *input, size_t input_len, const laddertick_entry *entries, size_t entries_len, size_t number,
+                                       laddertick_rectangle r, size_t *list, size_t list_len);
+
+/* The element of one label whose position is nearest to a point, by the larger of the distances along x and y; the earlier one if equal. number 0: `place` is its
+   number, from 0. Refusals: those of laddertick_open but 15, in the same order. */
+laddertick_written laddertick_nearest(const uint8_t *input, size_t input_len, const laddertick_entry *entries, size_t entries_len, size_t number, int32_t x, int32_t y);
 
 #ifdef __cplusplus
 }

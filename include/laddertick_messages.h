@@ -32,6 +32,7 @@
     X(19, "a size outside 32 bits: of a diagonal, a box or a text") \
     X(20, "more labels than the list has entries") \
     X(21, "no such label") \
+    X(22, "the far corner is below the near one") \
     X(25, "a joined text of more than 16,777,216 bytes")
 /* clang-format on */
 

@@ -4,6 +4,7 @@
 mod compare;
 mod index;
 mod join;
+mod lying;
 #[path = "../../bindings/rust/src/raw.rs"]
 mod raw;
 mod short;

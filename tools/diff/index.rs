@@ -2,6 +2,7 @@
 //! library; a label's lines are those of the full listing. Entries that no index made are held beside the steps from their first place.
 
 use crate::compare::{answers, refused, written, Lent, Seen};
+use crate::lying;
 use crate::raw::{self, Entry, Walk, Written};
 use crate::steps;
 use oracle::{Answer, LIMIT};
@@ -69,6 +70,7 @@ fn opened(lent: &mut Lent, input: &[u8], entries: &[Entry], listing: &str, rng: 
     for (number, label) in labels.iter().enumerate() {
         let open = |input: &[u8], out: &mut [u8]| raw::open(input, entries, number, out);
         answers(lent, &open, input, label.len(), Written { number: 0, place: label.len() }, label.as_bytes()).map_err(|wrong| format!("label {number}, {wrong}"))?;
+        lying::held(input, entries, number, label, |n| rng.below(n)).map_err(|wrong| format!("label {number}, {wrong}"))?;
     }
     if !labels.is_empty() {
         let number = rng.below(labels.len());

@@ -105,6 +105,8 @@ static size_t entries_len, label;
 static const uint8_t *second;
 static size_t second_len;
 static laddertick_joined joined;
+static laddertick_rectangle rectangle;
+static size_t *numbers, numbers_len;
 
 static void do_step(void) { answer = laddertick_step(input, input_len, walk); }
 static void do_data(void) { written = laddertick_data(input, input_len, start, len, out, out_len); }
@@ -113,6 +115,9 @@ static void do_strict_list(void) { written = laddertick_strict_list(input, input
 static void do_check(void) { checked = laddertick_check(input, input_len); }
 static void do_index(void) { written = laddertick_index(input, input_len, entries, entries_len); }
 static void do_open(void) { written = laddertick_open(input, input_len, entries, entries_len, label, out, out_len); }
+static void do_inside(void) { written = laddertick_inside(input, input_len, entries, entries_len, label, rectangle, numbers, numbers_len); }
+static void do_touching(void) { written = laddertick_touching(input, input_len, entries, entries_len, label, rectangle, numbers, numbers_len); }
+static void do_nearest(void) { written = laddertick_nearest(input, input_len, entries, entries_len, label, rectangle.x1, rectangle.y1); }
 static void do_normalise(void) { written = laddertick_normalise(input, input_len, out, out_len); }
 
 static void do_join(void)
@@ -310,6 +315,59 @@ static laddertick_written opens(size_t i, int last, unsigned due, size_t place)
     return w;
 }
 
+/* A list of n numbers at either end of its region, marked with what lies beside it, and the call with it. The first `kept` may change and no other. */
+static void lend_numbers(const char *name, void (*function)(void), size_t n, int last, size_t kept)
+{
+    size_t most = (n + BESIDE) * sizeof *numbers;
+    memset(placed(outs, most, last), 0x5a, most);
+    numbers = (size_t *)placed(outs, n * sizeof *numbers, last);
+    numbers_len = n;
+    call(name, function);
+    calls++;
+    uint8_t *at = (uint8_t *)numbers, *marked = placed(outs, most, last);
+    if (unmarked(marked, (size_t)(at - marked)) + unmarked(at + kept * sizeof *numbers, (size_t)(marked + most - at) - kept * sizeof *numbers) != 0)
+        wrong("a number was changed that is not the answer's");
+}
+
+/* What lies where on label i, as it was opened: no room, room to spare, exactly enough and too little; a turned rectangle; the nearest. */
+static void lies(size_t i, int last, laddertick_written opened)
+{
+    static const char *const NAMES[] = {"laddertick_inside", "laddertick_touching"};
+    static void (*const CALLS[])(void) = {do_inside, do_touching};
+    label = i;
+    for (int k = 0; k < 2; k++) {
+        rectangle = (laddertick_rectangle){(int32_t)next(), (int32_t)next(), INT32_MAX, INT32_MAX};
+        if (next() % 2 == 0)
+            rectangle = (laddertick_rectangle){-(int32_t)(next() % 8), -(int32_t)(next() % 8), (int32_t)(next() % 400), (int32_t)(next() % 400)};
+        lend_numbers(NAMES[k], CALLS[k], 0, last, 0);
+        laddertick_written all = written;
+        size_t n = all.place;
+        if (opened.number != 0 ? all.number != opened.number || n != opened.place : all.number != (n == 0 ? 0 : LADDERTICK_OUTPUT_TOO_SHORT))
+            wrong("not refused as opening is, or 15 not as it should be told");
+        if (all.number == LADDERTICK_OUTPUT_TOO_SHORT) {
+            lend_numbers(NAMES[k], CALLS[k], n - 1, last, 0);
+            if (written.number != all.number || written.place != n)
+                wrong("15 is not told as it should be");
+            for (size_t more = 0; more < 4; more += 3) {
+                lend_numbers(NAMES[k], CALLS[k], n + more, last, n);
+                if (written.number != 0 || written.place != n)
+                    wrong("not as many as were counted");
+                for (size_t j = 1; j < n; j++)
+                    if (numbers[j] <= numbers[j - 1])
+                        wrong("the numbers do not rise");
+            }
+        }
+        rectangle = k == 0 ? (laddertick_rectangle){1, 0, 0, 0} : (laddertick_rectangle){0, 1, 0, 0};
+        lend_numbers(NAMES[k], CALLS[k], 2, last, 0);
+        if (written.number != (input_len > LADDERTICK_LONGEST ? LADDERTICK_INPUT_TOO_LONG : LADDERTICK_RECTANGLE_TURNED) || written.place != 0)
+            wrong("22 is not told as it should be");
+    }
+    call("laddertick_nearest", do_nearest);
+    calls++;
+    if (opened.number != 0 ? written.number != opened.number || written.place != opened.place : written.number != 0)
+        wrong("nearest is not refused as opening is");
+}
+
 /* The index, behind the plain listing `plain` of so many labels, and every label opened: their lines together are the listing's, but for frame fe. */
 static uint64_t indexed(int last, laddertick_written plain, size_t labels)
 {
@@ -334,6 +392,7 @@ static uint64_t indexed(int last, laddertick_written plain, size_t labels)
         laddertick_written w = opens(i, last, 0, 0);
         if (w.number != 0)
             wrong("an entry of the index is refused");
+        lies(i, last, w);
         if (i > 0 && entries[i].first < entries[i - 1].last)
             wrong("an entry that begins before the one before it ends");
         sum += w.place;
@@ -358,6 +417,7 @@ static void made(int last)
         laddertick_written w = opens(0, last, outside ? LADDERTICK_STATE_OUTSIDE : 0, e.last);
         if (!outside && w.number == LADDERTICK_STATE_OUTSIDE)
             wrong("16 is not told as it should be");
+        lies(0, last, w);
         if (memcmp(&entries[0], &e, sizeof e) != 0)
             wrong("the entry is changed");
     }

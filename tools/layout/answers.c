@@ -231,6 +231,44 @@ static void joins(void)
     bytes("join", out, "LO1,2,3,4\nN\nP1\n.................", sizeof out);
 }
 
+static void numbers(const char *what, const size_t *is, size_t a, size_t b, size_t c)
+{
+    if (is[0] != a || is[1] != b || is[2] != c) {
+        printf("%s: the list is %zu %zu %zu and not %zu %zu %zu\n", what, is[0], is[1], is[2], a, b, c);
+        wrong = 1;
+    }
+}
+
+/* What lies where on the second label of a file, whose N drops a box: all numbers different, so that no two fields can change places. */
+static void spots(void)
+{
+    laddertick_entry list[2];
+    size_t to[3] = {91, 92, 93};
+    input = (const uint8_t *)"LO1,2,3,4\nP\nLO5,6,7,8\nN\nLO11,22,33,44\nA100,200,0,1,1,1,N,\"a\"\nLS300,410,5,350,470\nLO2147483000,9,2147483647,1\nP\n";
+    input_len = strlen((const char *)input);
+    written("index of two labels", laddertick_index(input, input_len, list, 2), (laddertick_written){0, 2});
+    written("inside", laddertick_inside(input, input_len, list, 2, 1, (laddertick_rectangle){12, 22, 300, 410}, to, 3), (laddertick_written){0, 2});
+    numbers("inside", to, 1, 2, 93);
+    written("inside, no room", laddertick_inside(input, input_len, list, 2, 1, (laddertick_rectangle){11, 9, 300, 410}, to, 2), (laddertick_written){15, 3});
+    written("inside, no list", laddertick_inside(input, input_len, list, 2, 1, (laddertick_rectangle){11, 9, 300, 410}, NULL, 0), (laddertick_written){15, 3});
+    numbers("a list at 15", to, 1, 2, 93);
+    written("touching", laddertick_touching(input, input_len, list, 2, 1, (laddertick_rectangle){44, 66, 300, 410}, to, 3), (laddertick_written){0, 2});
+    numbers("touching", to, 0, 2, 93);
+    written("touching past 32 bits", laddertick_touching(input, input_len, list, 2, 1, (laddertick_rectangle){INT32_MAX, 10, INT32_MAX, 10}, to, 1), (laddertick_written){0, 1});
+    numbers("touching past 32 bits", to, 3, 2, 93);
+    written("touching nothing", laddertick_touching(input, input_len, list, 2, 1, (laddertick_rectangle){45, 67, 46, 68}, to, 3), (laddertick_written){0, 0});
+    written("turned across", laddertick_inside(input, input_len, list, 2, 7, (laddertick_rectangle){2, 1, 1, 3}, to, 3), (laddertick_written){22, 0});
+    written("turned down", laddertick_touching(input, input_len, list, 2, 7, (laddertick_rectangle){1, 3, 2, 1}, to, 3), (laddertick_written){22, 0});
+    written("inside past the list", laddertick_inside(input, input_len, list, 2, 7, (laddertick_rectangle){1, 1, 1, 1}, to, 3), (laddertick_written){21, 7});
+    written("touching past the list", laddertick_touching(input, input_len, list, 2, 7, (laddertick_rectangle){1, 1, 1, 1}, to, 3), (laddertick_written){21, 7});
+    numbers("a refused list", to, 3, 2, 93);
+    written("nearest", laddertick_nearest(input, input_len, list, 2, 1, 290, 900), (laddertick_written){0, 2});
+    written("nearest, the other way", laddertick_nearest(input, input_len, list, 2, 1, 900, 290), (laddertick_written){0, 2});
+    written("nearest from below 0", laddertick_nearest(input, input_len, list, 2, 1, INT32_MIN, -7), (laddertick_written){0, 0});
+    written("nearest to a text", laddertick_nearest(input, input_len, list, 2, 1, 101, 150), (laddertick_written){0, 1});
+    written("nearest past the list", laddertick_nearest(input, input_len, list, 2, 2, 1, 1), (laddertick_written){21, 2});
+}
+
 /* NULL of length 0, for an input and for a buffer: an empty file, and no room. */
 static void null(void)
 {
@@ -246,6 +284,9 @@ static void null(void)
         written("open in NULL", laddertick_open(NULL, 0, NULL, 0, 7, to, (size_t)k), (laddertick_written){21, 7});
         written("open of NULL", laddertick_open(NULL, 0, &(laddertick_entry){0, 0, 1, 2, 3}, 1, 0, to, (size_t)k), (laddertick_written){21, 0});
     }
+    written("inside NULL", laddertick_inside(NULL, 0, NULL, 0, 7, (laddertick_rectangle){0, 0, 0, 0}, NULL, 0), (laddertick_written){21, 7});
+    written("touching NULL", laddertick_touching(NULL, 0, NULL, 0, 7, (laddertick_rectangle){0, 0, 0, 0}, NULL, 0), (laddertick_written){21, 7});
+    written("nearest NULL", laddertick_nearest(NULL, 0, NULL, 0, 7, 0, 0), (laddertick_written){21, 7});
     written("index NULL", laddertick_index(NULL, 0, NULL, 0), (laddertick_written){0, 0});
     checked("check NULL", laddertick_check(NULL, 0), (laddertick_checked){.number = 0});
     joined("join NULL", laddertick_join(NULL, 0, NULL, 0, NULL, 0), (laddertick_joined){15, 0, 2});
@@ -264,6 +305,7 @@ int main(void)
     checks();
     indexes();
     joins();
+    spots();
     null();
     printf("layout: %zu answers of a step, every field of each: %s\n", looked_at, wrong ? "some are wrong" : "all as 01 says");
     return wrong;

@@ -5,12 +5,12 @@ BEGIN {
   if (to == "c") {
     host["FlatAnswer"] = "laddertick_answer"; host["Element"] = "laddertick_element"; host["WalkState"] = "laddertick_walk"; host["Written"] = "laddertick_written"
     host["Checked"] = "laddertick_checked"; host["LabelEntry"] = "laddertick_entry"
-    host["Joined"] = "laddertick_joined"
+    host["Joined"] = "laddertick_joined"; host["Rectangle"] = "laddertick_rectangle"
     type["u8"] = "uint8_t"; type["i32"] = "int32_t"; type["u32"] = "uint32_t"; type["usize"] = "size_t"; type["f64"] = "double"
   } else {
     host["FlatAnswer"] = "Answer"; host["Element"] = "Element"; host["WalkState"] = "Walk"; host["Written"] = "Written"
     host["Checked"] = "Checked"; host["LabelEntry"] = "Entry"
-    host["Joined"] = "Joined"
+    host["Joined"] = "Joined"; host["Rectangle"] = "Rectangle"
     for (t in size) type[t] = t
   }
   for (s in host) type[s] = host[s]
@@ -22,7 +22,7 @@ marked && /^pub struct [A-Za-z]+ \{$/ { struct = $3; structs[struct] = ++declare
 marked { stop("no struct behind #[repr(C)]") }
 struct && /^}$/ { struct = ""; next }
 struct && /^ *\/\// { next }
-struct && /^    pub [a-z_]+: [A-Za-z0-9]+,$/ {
+struct && /^    pub [a-z_0-9]+: [A-Za-z0-9]+,$/ {
   n = ++count[struct]
   name[struct, n] = substr($2, 1, length($2) - 1)
   of[struct, n] = substr($3, 1, length($3) - 1)

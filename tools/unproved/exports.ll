@@ -105,6 +105,43 @@ define %joined @laddertick_join(ptr %first, i64 %first_len, ptr %second, i64 %se
   ret %joined %r
 }
 
+define %written @laddertick_inside(ptr %input, i64 %len, ptr %entries, i64 %entries_len, i64 %number, ptr byval([16 x i8]) align 8 %r, ptr %list, i64 %list_len) {
+  %s = alloca %slice, align 8
+  %e = alloca %slice, align 8
+  %l = alloca %slice, align 8
+  %w = alloca %written, align 8
+  call void @slice_of(ptr %s, ptr %input, i64 %len)
+  call void @slice_of(ptr %e, ptr %entries, i64 %entries_len)
+  call void @slice_of(ptr %l, ptr %list, i64 %list_len)
+  call void @inner_inside(ptr %w, ptr %s, ptr %e, i64 %number, ptr %r, ptr %l)
+  %a = load %written, ptr %w, align 8
+  ret %written %a
+}
+
+define %written @laddertick_touching(ptr %input, i64 %len, ptr %entries, i64 %entries_len, i64 %number, ptr byval([16 x i8]) align 8 %r, ptr %list, i64 %list_len) {
+  %s = alloca %slice, align 8
+  %e = alloca %slice, align 8
+  %l = alloca %slice, align 8
+  %w = alloca %written, align 8
+  call void @slice_of(ptr %s, ptr %input, i64 %len)
+  call void @slice_of(ptr %e, ptr %entries, i64 %entries_len)
+  call void @slice_of(ptr %l, ptr %list, i64 %list_len)
+  call void @inner_touching(ptr %w, ptr %s, ptr %e, i64 %number, ptr %r, ptr %l)
+  %a = load %written, ptr %w, align 8
+  ret %written %a
+}
+
+define %written @laddertick_nearest(ptr %input, i64 %len, ptr %entries, i64 %entries_len, i64 %number, i32 %x, i32 %y) {
+  %s = alloca %slice, align 8
+  %e = alloca %slice, align 8
+  %w = alloca %written, align 8
+  call void @slice_of(ptr %s, ptr %input, i64 %len)
+  call void @slice_of(ptr %e, ptr %entries, i64 %entries_len)
+  call void @inner_nearest(ptr %w, ptr %s, ptr %e, i64 %number, i32 %x, i32 %y)
+  %r = load %written, ptr %w, align 8
+  ret %written %r
+}
+
 define internal void @slice_of(ptr %s, ptr %bytes, i64 %len) alwaysinline {
   store ptr %bytes, ptr %s, align 8
   %l = getelementptr i8, ptr %s, i64 8

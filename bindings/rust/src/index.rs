@@ -1,4 +1,4 @@
-use crate::raw::{self, Walk};
+use crate::raw::{self, Rectangle, Walk, Written};
 use crate::walk::{labels_from, steps_from, Label, Steps};
 use crate::write::write;
 use crate::Refused;
@@ -81,6 +81,63 @@ impl<'a> Index<'a> {
         let lines = write(0, |out| raw::open(self.input, &self.entries, number, out))?;
         Ok(String::from_utf8(lines).expect("a listing is hexadecimal digits and LF"))
     }
+}
+
+impl Index<'_> {
+    /// The numbers, from 0, of the elements of a label whose position lies in a rectangle, in file order. Refused 22 where the far corner is below the near one on
+    /// either axis, then 21 past the last label.
+    ///
+    /// ```
+    /// use laddertick::{Index, Rectangle};
+    /// let index = Index::of(b"LO1,2,3,4\nLO50,60,7,8\nP\n")?;
+    /// assert_eq!(index.inside(0, Rectangle { x1: 50, y1: 60, x2: 50, y2: 60 })?, [1]);
+    /// assert_eq!(index.inside(9, Rectangle { x1: 2, y1: 0, x2: 1, y2: 0 }).unwrap_err().number, 22);
+    /// # Ok::<(), laddertick::Refused>(())
+    /// ```
+    pub fn inside(&self, number: usize, r: Rectangle) -> Result<Vec<usize>, Refused> {
+        found(|list| raw::inside(self.input, &self.entries, number, r, list))
+    }
+
+    /// Of its boxes and diagonals, those whose own rectangle, from position to position plus width and height, shares a point with another; likewise.
+    ///
+    /// ```
+    /// use laddertick::{Index, Rectangle};
+    /// let index = Index::of(b"LO1,2,3,4\nLO50,60,7,8\nP\n")?;
+    /// assert_eq!(index.touching(0, Rectangle { x1: 4, y1: 6, x2: 49, y2: 99 })?, [0]);
+    /// # Ok::<(), laddertick::Refused>(())
+    /// ```
+    pub fn touching(&self, number: usize, r: Rectangle) -> Result<Vec<usize>, Refused> {
+        found(|list| raw::touching(self.input, &self.entries, number, r, list))
+    }
+
+    /// The number, from 0, of the element of a label whose position is nearest to a point, by the larger of the distances along x and y; of equals the earlier.
+    ///
+    /// ```
+    /// let index = laddertick::Index::of(b"LO0,0,1,1\nLO200,0,1,1\nP\n")?;
+    /// assert_eq!((index.nearest(0, 100, 0)?, index.nearest(0, 101, 90)?), (0, 1));
+    /// # Ok::<(), laddertick::Refused>(())
+    /// ```
+    pub fn nearest(&self, number: usize, x: i32, y: i32) -> Result<usize, Refused> {
+        let written = raw::nearest(self.input, &self.entries, number, x, y);
+        if written.number != 0 {
+            return Err(Refused { number: written.number as u8, place: written.place });
+        }
+        Ok(written.place)
+    }
+}
+
+/// The numbers that `of` writes: it is lent no room first, and says how many there are.
+fn found(of: impl Fn(&mut [usize]) -> Written) -> Result<Vec<usize>, Refused> {
+    let mut list = Vec::new();
+    let mut written = of(&mut list);
+    if written.number == Refused::OUTPUT_TOO_SHORT as u32 {
+        list.resize(written.place, 0);
+        written = of(&mut list);
+    }
+    if written.number != 0 {
+        return Err(Refused { number: written.number as u8, place: written.place });
+    }
+    Ok(list)
 }
 
 /// One label of an [`Index`]: where it stands, and the way to its elements, which reads its own bytes and no others.

@@ -32,6 +32,7 @@ pub use check::{check, Field, Held, Unfit};
 pub use element::{BarMode, Bars, Colour, Element, Kind, QrLevel, Scale};
 pub use index::{Entry, Index};
 pub use join::{join, Part, Unjoined};
+pub use raw::Rectangle;
 pub use refused::Refused;
 pub use walk::{labels, steps, Label, Labels, Print, Step, Steps, Unprinted};
 use write::write;

@@ -99,6 +99,16 @@ pub struct Joined {
     pub place: usize,
 }
 
+/// A closed rectangle: its near corner and its far one.
+#[repr(C)]
+#[derive(Clone, Copy, Debug, Default, PartialEq, Eq)]
+pub struct Rectangle {
+    pub x1: i32,
+    pub y1: i32,
+    pub x2: i32,
+    pub y2: i32,
+}
+
 extern "C" {
     fn laddertick_start() -> Walk;
     fn laddertick_step(input: *const u8, input_len: usize, walk: Walk) -> Answer;
@@ -108,6 +118,9 @@ extern "C" {
     fn laddertick_check(input: *const u8, input_len: usize) -> Checked;
     fn laddertick_strict_list(input: *const u8, input_len: usize, out: *mut u8, out_len: usize) -> Written;
     fn laddertick_index(input: *const u8, input_len: usize, entries: *mut Entry, entries_len: usize) -> Written;
+    fn laddertick_inside(input: *const u8, input_len: usize, entries: *const Entry, entries_len: usize, number: usize, r: Rectangle, list: *mut usize, list_len: usize) -> Written;
+    fn laddertick_touching(input: *const u8, input_len: usize, entries: *const Entry, entries_len: usize, number: usize, r: Rectangle, list: *mut usize, list_len: usize) -> Written;
+    fn laddertick_nearest(input: *const u8, input_len: usize, entries: *const Entry, entries_len: usize, number: usize, x: i32, y: i32) -> Written;
     fn laddertick_open(input: *const u8, input_len: usize, entries: *const Entry, entries_len: usize, number: usize, out: *mut u8, out_len: usize) -> Written;
     fn laddertick_join(first: *const u8, first_len: usize, second: *const u8, second_len: usize, out: *mut u8, out_len: usize) -> Joined;
 }
@@ -153,4 +166,16 @@ pub fn open(input: &[u8], entries: &[Entry], number: usize, out: &mut [u8]) -> W
 
 pub fn join(first: &[u8], second: &[u8], out: &mut [u8]) -> Joined {
     unsafe { laddertick_join(first.as_ptr(), first.len(), second.as_ptr(), second.len(), out.as_mut_ptr(), out.len()) }
+}
+
+pub fn inside(input: &[u8], entries: &[Entry], number: usize, r: Rectangle, list: &mut [usize]) -> Written {
+    unsafe { laddertick_inside(input.as_ptr(), input.len(), entries.as_ptr(), entries.len(), number, r, list.as_mut_ptr(), list.len()) }
+}
+
+pub fn touching(input: &[u8], entries: &[Entry], number: usize, r: Rectangle, list: &mut [usize]) -> Written {
+    unsafe { laddertick_touching(input.as_ptr(), input.len(), entries.as_ptr(), entries.len(), number, r, list.as_mut_ptr(), list.len()) }
+}
+
+pub fn nearest(input: &[u8], entries: &[Entry], number: usize, x: i32, y: i32) -> Written {
+    unsafe { laddertick_nearest(input.as_ptr(), input.len(), entries.as_ptr(), entries.len(), number, x, y) }
 }

@@ -148,7 +148,8 @@ fn words_of_c() {
     );
     assert_eq!(meaning(20), "more labels than the list has entries");
     assert_eq!(meaning(21), "no such label");
-    assert_eq!(meaning(22), "unknown");
+    assert_eq!(meaning(22), "the far corner is below the near one");
+    assert_eq!(meaning(23), "unknown");
 }
 
 #[test]

@@ -8,6 +8,7 @@ use Rattle.elements.specs.declared.refusal.Refusal.the-variants.{Graphic
 use Rattle.elements.specs.declared.refusal.Refusal.the-variants.{OutOfRange, InputTooLong, OutputTooShort}
 use Rattle.elements.specs.declared.refusal.Refusal.the-variants.{StateOutside, NoValue, OutsideProfile}
 use Rattle.elements.specs.declared.refusal.Refusal.the-variants.{SizeOutside, TooManyLabels, NoSuchLabel}
+use Rattle.elements.specs.declared.refusal.Refusal.the-variants.{RectangleTurned}
 use Rattle.elements.specs.declared.refusal.Refusal.the-variants.{JoinedTooLong}
 
 abbrev pub numberOf : Refusal → ℕ
@@ -41,5 +42,7 @@ numberOf SizeOutside = 19
 -- 20 more labels than entries; 21 an entry number past the last label, or an entry that yields none
 numberOf TooManyLabels = 20
 numberOf NoSuchLabel = 21
+-- 22 a rectangle whose far corner is below its near one on either axis
+numberOf RectangleTurned = 22
 -- 25 a joined text over 16,777,216 bytes
 numberOf JoinedTooLong = 25

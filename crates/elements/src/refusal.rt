@@ -37,6 +37,8 @@ pub enum Refusal {
     // The host: more labels than entries, an entry number that has no label.
     TooManyLabels,
     NoSuchLabel,
+    // a rectangle whose far corner is below its near one,
+    RectangleTurned,
     // a joined text too long to be read.
     JoinedTooLong,
 }
@@ -68,6 +70,7 @@ impl Refusal {
             Refusal::OutsideProfile => 18,
             Refusal::TooManyLabels => 20,
             Refusal::NoSuchLabel => 21,
+            Refusal::RectangleTurned => 22,
             Refusal::JoinedTooLong => 25,
         }
     }

@@ -2,15 +2,16 @@
 use mathlib.Core.Path.{_≡_, refl, sym, ap, subst, _∙_}
 use mathlib.Core.Bool.{false}
 use mathlib.Core.List.{List, [], _++_, _∷_, _++_, map}
+use mathlib.Core.Option.{some}
 use mathlib.Core.Logic.{_↔_, _⊎_, inl, inr}
 use Prim.Native.Nat.{ℕ, zero, suc, _≤_, _<_}
 use native.Mathlib.Omega.{arith}
-use lib.ListN.{length, take}
+use lib.ListN.{length, take, getElem?}
 use Rattle.text.proofs.BlankWhiteLaws.{code-points-trim}
 use Rattle.texts.proofs.FontLaws.{width-exact}
 use Rattle.elements.specs.declared.LabelElement.{LabelElement}
 use Rattle.elements.specs.declared.refusal.Refusal.{Refusal}
-use Rattle.elements.specs.declared.refusal.Refusal.the-variants.{TextFields, BarcodeFields, Barcode2dFields, LineFields, DiagonalFields, BoxFields, BarcodeType, Barcode2dType, QrData, GraphicFields, GraphicNegative, GraphicTruncated, OutOfRange, InputTooLong, OutputTooShort, StateOutside, NoValue, OutsideProfile, SizeOutside, TooManyLabels, NoSuchLabel, JoinedTooLong}
+use Rattle.elements.specs.declared.refusal.Refusal.the-variants.{TextFields, BarcodeFields, Barcode2dFields, LineFields, DiagonalFields, BoxFields, BarcodeType, Barcode2dType, QrData, GraphicFields, GraphicNegative, GraphicTruncated, OutOfRange, InputTooLong, OutputTooShort, StateOutside, NoValue, OutsideProfile, SizeOutside, TooManyLabels, NoSuchLabel, RectangleTurned, JoinedTooLong}
 use Rattle.elements.specs.Refusals.{numberOf}
 use Rattle.elements.specs.Walk.{fresh}
 use Rattle.element_frames.specs.Frame.{be32, head, frameOf}
@@ -18,7 +19,8 @@ use Rattle.element_frames.proofs.FrameLaws.{frame-local}
 use Rattle.elements.specs.Given.{longest}
 use Rattle.whole.specs.Division.{Division}
 use Rattle.whole.specs.Labels as labels-of
-use Rattle.whole.specs.Labels.{flush, labels, labelsOf}
+use Rattle.whole.specs.Labels.{flush, Label, labels, labelsOf}
+use Rattle.whole.specs.Index.{opens, entries, opening}
 use Rattle.whole.specs.Reach as theory
 use Rattle.whole.specs.Reach.{Final, accepted, refusal}
 use Rattle.whole.specs.Normal.{each, Normal}
@@ -33,11 +35,11 @@ use Rattle.whole.proofs.TraceLaws.{reach-outcome}
 use Rattle.elements.proofs.GivenLaws.{within-short}
 use Rattle.grammar.specs.Units.{EplUnit}
 use Rattle.grammar.specs.WellFormed.{wellFormed, faultOf}
-use Rattle.grammar.specs.Epl.{origin, epl}
+use Rattle.grammar.specs.Epl.{EplPrint, origin, epl}
 use Rattle.grammar.specs.Shapes.{kindOf, placeOf}
 use Rattle.grammar.specs.LineFaults.{LineFault}
 use Rattle.grammar.specs.Ranges.{Beyond, Beyond13, InRange}
-use Rattle.grammar.specs.Divided.{Earliest}
+use Rattle.grammar.specs.Divided.{labelsBy, Earliest}
 use Rattle.grammar.specs.Normal.{normal, blocks, normalised}
 use Rattle.grammar.proofs.FoundLaws.{reads, firm}
 use Rattle.grammar.proofs.SpelledLaws.{spelled}
@@ -75,14 +77,18 @@ use Rattle.whole.specs.Join as theory-join
 use Rattle.joining.specs.Join.{joinedText, clearLine}
 use Rattle.joining.proofs.JoinLaws.{due-first, due-second, due-long, due-text}
 use Rattle.joining.proofs.EplLaws.{epl-joins}
+use Rattle.index.specs.Entries.{EplEntry, entriesFrom}
+use Rattle.finds.specs.Found.{itself, openingOf}
 use Rattle.laddertick.specs.Contracts.{Library, Gives, DeniesList}
 use Rattle.laddertick.specs.Walked.{Walked, answered}
-use Rattle.laddertick.specs.Claims.{Divides, Normalising, Demand3, Profile, Indexing, Joining, Joins, OneLineChanged, Claims, Theorem}
+use Rattle.laddertick.specs.Claims.{Answers, Divides, Normalising, Demand3, Profile, Indexing, Joining, Joins, OneLineChanged, Claims, Theorem}
 use Rattle.laddertick.proofs.ColouredLaws.{exclusive-or}
 use Rattle.laddertick.proofs.WalkedLaws.{walked, one-walked, answered-is}
 use Rattle.laddertick.proofs.ContractsLaws.{step-hands-back, list-keeps, normalise-keeps, strict-list-keeps, long-step, long-list, long-normalise, long-check, long-strict-list, outside, end-keeps, ended-again, data-inside, denies}
 use Rattle.laddertick.proofs.ContractsLaws as calls
 use Rattle.laddertick.proofs.IndexLaws as index-laws
+use Rattle.laddertick.proofs.LyingLaws as lying-laws
+use Rattle.laddertick.proofs.LyingOwnLaws.{Drawn, drawnOf, drawnLabel, drawn-shifted, map-at, labels-drawn, opened-as, answers-alike}
 use Rattle.laddertick.proofs.IndexLaws.{index-keeps, open-keeps, long-index, long-open}
 use Rattle.laddertick.proofs.JoinedLaws.{walked-lists, union-denies, union-gives, join-keeps, long-join}
 use Rattle.laddertick.proofs.Proved.{proved}
@@ -92,6 +98,7 @@ use Rattle.laddertick.proofs.Profiled.{profiled}
 use Rattle.laddertick.proofs.Indexed as tabled
 use Rattle.laddertick.proofs.Joined.{joined}
 use Rattle.laddertick.proofs.Changed.{changed}
+use Rattle.laddertick.proofs.Lying as laid
 
 -- a frame looks only at the bytes of its own unit, wherever they stand
 local : Local epl (List ℕ) frameOf
@@ -318,6 +325,19 @@ module _ (library : Library) where
       k : (behind : List EplUnit) × Division epl s (before ++ unitOf e t ∷ behind)
       k = old-division s s′ t t′ e before r (d .division)
 
+  -- ---- what lies where
+  lying-own-of : (s : List ℕ) (ls : List FramedLabel) (n : ℕ) (short : length s ≤ longest) (d : Divides s ls n)
+      → (i : ℕ) (f : Label LabelElement EplPrint) → getElem? (labelsBy itself origin [] (d .units)) i ≡ some f → Answers library s (indexing-of s ls n short d .entries) i (f .frames)
+  unfolding indexing-of
+  lying-own-of s ls n short d i f h =
+      let es = entries epl origin s in
+      let x = indexed epl reads firm Drawn drawnOf (λ r u e k pre post. drawn-shifted (length pre) e) s short origin _ _ (record { units = d .units; division = d .division; range = in-range-labels Drawn drawnOf (d .division) origin [] (d .range) }) in
+      let o = opened-as s es i f (x .opened i (drawnLabel f) (ap (λ (ms : List (Label Drawn EplPrint)). getElem? ms i) (labels-drawn (d .units) origin []) ∙ map-at drawnLabel (labelsBy itself origin [] (d .units)) i f h)) in
+      let own : openingOf s (entriesFrom es) i ≡ opens (o .0) = ap (λ (ys : List EplEntry). opening epl LabelElement itself s ys i) (index-laws.from-of es) ∙ o .1 in
+      subst (λ (ys : List LabelEntry). Answers library s ys i (f .frames))
+      (sym (index-laws.indexing-entries library s ls n (sym (final-is s short) ∙ accepts s short ls n d .0) (indexed epl reads firm (List ℕ) frameOf local s short origin ls n (in-theory s ls n d))))
+      (answers-alike (o .0 .frames) (f .frames) (o .2) library s (entriesFrom es) i (lying-laws.lying library s (entriesFrom es) i .opened (o .0) own))
+
 -- ---- demand 1: the numbers of refusals
 numbered-of : (k : Refusal) → (1 ≤ numberOf k) × (numberOf k ≤ 25)
 numbered-of TextFields = (omega arith, omega arith)
@@ -341,6 +361,7 @@ numbered-of OutsideProfile = (omega arith, omega arith)
 numbered-of SizeOutside = (omega arith, omega arith)
 numbered-of TooManyLabels = (omega arith, omega arith)
 numbered-of NoSuchLabel = (omega arith, omega arith)
+numbered-of RectangleTurned = (omega arith, omega arith)
 numbered-of JoinedTooLong = (omega arith, omega arith)
 
 -- ---- demand 2
@@ -402,6 +423,7 @@ claims library = record {
     tabled = tabled.indexed;
     joined = joined;
     changed = changed;
+    laid = laid.lying;
   };
   sized = calls.sized library;
   demand3 = demand-of library;
@@ -411,6 +433,9 @@ claims library = record {
   opening = index-laws.opening library;
   joins = joins-of library;
   one-line = one-line-of library;
+  lying = lying-laws.lying library;
+  lying-own = lying-own-of library;
+  shares = lying-laws.shares;
   block-bytes = block-bytes;
   line-blocks = line-blocks;
   flat = record { frame = flat-frame; next = flat-next; kind = flat-kind; clear = λ st. refl; end = λ st. refl };

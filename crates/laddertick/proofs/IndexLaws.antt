@@ -77,7 +77,7 @@ module _ (l : List LabelEntry) (c : Entering) where
       }
 
 -- ---- entries as the theory has them
-from-of : (es : List EplEntry) → entriesOf (entriesFrom es) ≡ es
+pub from-of : (es : List EplEntry) → entriesOf (entriesFrom es) ≡ es
 from-of [] = refl
 from-of (e ∷ es) = λ i. e ∷ from-of es i
 
@@ -195,3 +195,7 @@ module _ (library : Library) where
         matched = subst (λ (y : List EplEntry). Along (EntryOf epl (List ℕ) frameOf s) y ls) (sym (from-of es)) (x .matched);
         opened = λ i f h. gives-at s (entriesFrom es) i (ap (λ (y : List EplEntry). openingDue (theory.opening epl (List ℕ) frameOf s y i)) (from-of es) ∙ ap openingDue (x .opened i f h));
       }
+
+  pub indexing-entries : (s : List ℕ) (ls : List FramedLabel) (n : ℕ) (e : final (trace epl s (stateOf fresh)) ≡ accepted n) (x : Indexed epl (List ℕ) frameOf origin s ls) → indexing s ls n e x .entries ≡ entriesFrom (entries epl origin s)
+  unfolding indexing
+  indexing-entries s ls n e x = refl

@@ -5,6 +5,7 @@ pub mod Profiled
 pub mod Indexed
 pub mod Joined
 pub mod Changed
+pub mod Lying
 -- `LE` beside `LO`
 pub mod ColouredLaws
 -- data lies inside; sizes and ratios are those of an element's fields
@@ -18,6 +19,9 @@ pub mod ContractsLaws
 pub mod IndexLaws
 -- two files joined
 pub mod JoinedLaws
+-- what lies where
+pub mod LyingLaws
+pub mod LyingOwnLaws
 -- the code
 pub mod Proved
 -- the claims

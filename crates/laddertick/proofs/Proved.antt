@@ -9,6 +9,9 @@ use Rattle.strict.proofs.listing.strict_list.Met as strict-list
 use Rattle.index.proofs.labels.index.Met as index
 use Rattle.opening.proofs.label.open_label.Met as open-label
 use Rattle.joining.proofs.join.join.Met as join
+use Rattle.finds.proofs.find.inside.Met as inside
+use Rattle.finds.proofs.find.touching.Met as touching
+use Rattle.finds.proofs.nearest.nearest.Met as nearest
 use Rattle.laddertick.specs.Proved.{Proved}
 
 pub proved : Proved
@@ -21,6 +24,9 @@ proved = record {
   strict-list = strict-list.met;
   index = index.met;
   open-label = open-label.met;
+  inside = inside.met;
+  touching = touching.met;
+  nearest = nearest.met;
   start-owes = λ κs a r z p. p;
   step-owes = λ κs a r z p. p;
   list-owes = λ κs a r z p. p;
@@ -31,4 +37,7 @@ proved = record {
   open-label-says = λ M 𝓤 H A mem run κs a g. (refl, λ r z. refl);
   join = join.met;
   join-owes = λ κs a r z p. p;
+  inside-says = λ M 𝓤 H A mem run κs a g. (refl, λ r z. refl);
+  touching-says = λ M 𝓤 H A mem run κs a g. (refl, λ r z. refl);
+  nearest-says = λ M 𝓤 H A mem run κs a g. (refl, λ r z. refl);
 }

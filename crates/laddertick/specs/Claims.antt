@@ -35,12 +35,13 @@ use Rattle.whole.specs.Step.{State, element, cleared, ended, refused}
 use Rattle.whole.specs.Reach.{Final, accepted, refusal}
 use Rattle.whole.specs.Trace.{listed}
 use Rattle.whole.specs.Normal.{each}
-use Rattle.whole.specs.Index.{Along, EntryOf}
+use Rattle.whole.specs.Index.{Along, EntryOf, opens}
+use Rattle.whole.specs.Labels.{Label}
 use Rattle.text.specs.Ascii.{spelt}
 use Rattle.grammar.specs.WellFormed.{wellFormed, faultOf}
 use Rattle.grammar.specs.Units.{Header, EplUnit, block, line, last, Stands}
 use Rattle.grammar.specs.Found.{first}
-use Rattle.grammar.specs.Epl.{origin, acts, epl}
+use Rattle.grammar.specs.Epl.{EplPrint, origin, acts, epl}
 use Rattle.grammar.specs.Spelled.{Spells}
 use Rattle.grammar.specs.Ranges.{AllFit, OneOut, numbersOf, sumsOf, sizesOf, Beyond, Beyond13}
 use Rattle.grammar.specs.Ranges.{refAfter, InRange, roleOf, Does}
@@ -64,7 +65,14 @@ use Rattle.strict.specs.declared.verdict.Checked.{Checked}
 use Rattle.index.specs.declared.entry.LabelEntry.{LabelEntry}
 use Rattle.index.specs.declared.labels.Indexed.the-variants as indexed
 use Rattle.index.specs.Entries.{entriesOf}
+use Rattle.spots.specs.declared.place.Rectangle.{Rectangle}
+use Rattle.spots.specs.Place.{isTurned, isTouching, Shared}
+use Rattle.spots.specs.Element.{insideOf, touchingOf, distances, FirstLeast}
+use Rattle.finds.specs.declared.found.Found.the-variants as found
+use Rattle.finds.specs.Found as spots
+use Rattle.finds.specs.Found.{itself, openingOf, spotOf}
 use Rattle.laddertick.specs.Contracts.{Library, Filling, Denies, Gives, DeniesList, GivesEntries, JoinDenies, JoinGives}
+use Rattle.laddertick.specs.Contracts.{DeniesNumbers, GivesNumbers}
 use Rattle.laddertick.specs.Proved.{Proved}
 use Rattle.laddertick.specs.Walked.{Walked, answered, Outside}
 use Rattle.laddertick.specs.Coloured.{Coloured}
@@ -80,6 +88,7 @@ use Rattle.spelling.specs.declared.command.Command.the-variants.{Clear, Print}
 use Rattle.whole.specs.Labels.{flush}
 use Rattle.grammar.specs.Epl.{EplPrint}
 use Rattle.changes.specs.OneLine.{Ending, unitOf, Replaced, Quiet, Is, Between, Next, saysOf, atHand, InLabel, Counted}
+use Rattle.laddertick.specs.Lying as laid
 
 -- "the string divides end to end into graphic blocks and command lines by 01's grammar with every position and size
 -- within signed 32 bits", and has these labels and n elements pending at its end
@@ -197,6 +206,7 @@ pub record Demand2 : Type 0 where
   pub joined : Holds joined.table
   -- and files in which one line is changed, listed before and after
   pub changed : Holds changed.table
+  pub laid : laid.Holds laid.table
 
 -- the normalised text of a string that divides and has these labels and n elements pending at its end
 pub record Normalising (library : Library) (s : List ℕ) (ls : List FramedLabel) (n : ℕ) : Type 0 where
@@ -338,6 +348,44 @@ pub record Joins (library : Library) (s t : List ℕ) : Type 0 where
       → Walked (library .step t) fresh ys (accepted k)
       → Joining library s t (answered s [] xs) (answered t [] ys) k
 
+-- 01, "What lies where": what is told of a label with the elements xs, opened from the entry with the number i
+pub record Answers (library : Library) (s : List ℕ) (es : List LabelEntry) (i : ℕ) (xs : List LabelElement) : Type 0 where
+  -- the numbers of "the elements whose position lies in a closed rectangle, in file order", 15 giving how many
+  pub inside : (b : Rectangle) → isTurned b ≡ false → (l : List ℕ)
+      → GivesNumbers (insideOf b xs) l (library .inside s es i b l)
+  -- ".. in the same order, those boxes and diagonals whose own closed rectangle .. shares a point with it"
+  pub touching : (b : Rectangle) → isTurned b ≡ false → (l : List ℕ)
+      → GivesNumbers (touchingOf b xs) l (library .touching s es i b l)
+  -- "the element whose position is nearest to a point .., the earlier one if equal": the first of the least distances
+  pub nearest : (q : LabelPosition)
+      → (k : ℕ) × (library .nearest s es i q ≡ found.Number k) × FirstLeast (distances q xs) k
+
+-- 01, "What lies where": of any string and any entries
+pub record Lying (library : Library) (s : List ℕ) (es : List LabelEntry) (i : ℕ) : Type 0 where
+  -- "The label is opened by its number in the index", with its elements
+  pub opened : (f : Label LabelElement EplPrint) → openingOf s es i ≡ opens f → Answers library s es i (f .frames)
+  -- ".. with all checks of opening": what `open_label` refuses, whatever its buffer, these refuse as it does
+  pub inside-refused : (n p : ℕ) → ((l : List ℕ) → Denies n p l (library .open-label s es i l))
+      → (b : Rectangle) → isTurned b ≡ false → (l : List ℕ) → DeniesNumbers n p l (library .inside s es i b l)
+  pub touching-refused : (n p : ℕ) → ((l : List ℕ) → Denies n p l (library .open-label s es i l))
+      → (b : Rectangle) → isTurned b ≡ false → (l : List ℕ) → DeniesNumbers n p l (library .touching s es i b l)
+  pub nearest-refused : (n p : ℕ) → ((l : List ℕ) → Denies n p l (library .open-label s es i l))
+      → (q : LabelPosition) → spotOf (library .nearest s es i q) ≡ spots.refused n p
+  -- "22 a rectangle whose far corner is below its near one on either axis (place 0), directly after 14 and before 21"
+  pub inside-turned : length s ≤ longest → (b : Rectangle) → isTurned b ≡ true → (l : List ℕ)
+      → DeniesNumbers 22 0 l (library .inside s es i b l)
+  pub touching-turned : length s ≤ longest → (b : Rectangle) → isTurned b ≡ true → (l : List ℕ)
+      → DeniesNumbers 22 0 l (library .touching s es i b l)
+  pub inside-long : longest < length s → (b : Rectangle) (l : List ℕ)
+      → DeniesNumbers 14 0 l (library .inside s es i b l)
+  pub touching-long : longest < length s → (b : Rectangle) (l : List ℕ)
+      → DeniesNumbers 14 0 l (library .touching s es i b l)
+  -- a refused call leaves the list as it came
+  pub inside-keeps : (b : Rectangle) (l : List ℕ) (k : Refusal) (p : ℕ)
+      → library .inside s es i b l .answer ≡ found.Refused k p → library .inside s es i b l .list ≡ l
+  pub touching-keeps : (b : Rectangle) (l : List ℕ) (k : Refusal) (p : ℕ)
+      → library .touching s es i b l .answer ≡ found.Refused k p → library .touching s es i b l .list ≡ l
+
 -- the flat answers of the static library, a : what `step` answers
 pub record Flat : Type 0 where
   -- an answer of `laddertick_step` rebuilt to 01's frame from its fields alone: an element's, a print's, a refusal's,
@@ -414,6 +462,14 @@ pub record Claims (library : Library) : Type 0 where
       → length s ≤ longest → length s′ ≤ longest → (xs xs′ : List Answer) (n n′ : ℕ)
       → Walked (library .step s) fresh xs (accepted n) → Walked (library .step s′) fresh xs′ (accepted n′)
       → OneLineChanged s s′ t t′ e before (answered s [] xs) (answered s′ [] xs′) n n′
+  -- what lies where; and of a string that divides, the answers for a number in its own index are those of the elements
+  -- of the label with this number in the division
+  pub lying : (s : List ℕ) (es : List LabelEntry) (i : ℕ) → Lying library s es i
+  pub lying-own : (s : List ℕ) (ls : List FramedLabel) (n : ℕ) (short : length s ≤ longest) (d : Divides s ls n)
+      → (i : ℕ) (f : Label LabelElement EplPrint) → getElem? (labelsBy itself origin [] (d .units)) i ≡ some f
+      → Answers library s (index s ls n short d .entries) i (f .frames)
+  -- "shares a point with it", literally: a point of both, over the integers, so that no far edge wraps
+  pub shares : (x y w h : ℤ) (b : Rectangle) → isTurned b ≡ false → (isTouching x y w h b ≡ true) ↔ Shared x y w h b
   -- a graphic block is its bytes, blanks, `GW`, four fields and payload; a line has none
   pub block-bytes : (bs p : List ℕ) (h : Header) → blocks (block bs h p)
       ≡ (bs ++ spelt "GW" (h .x ++ spelt "," (h .y ++ spelt "," (h .width ++ spelt "," (h .lines ++ spelt "," p))))) ∷ []

@@ -5,6 +5,7 @@ use mathlib.Core.List.{List, _++_}
 use Prim.Native.Nat.{ℕ, _≤_, _<_}
 use lib.ListN.{length, drop}
 use Rattle.elements.specs.declared.filled.Filled.{Filled}
+use Rattle.elements.specs.declared.LabelPosition.{LabelPosition}
 use Rattle.elements.specs.declared.walk_state.WalkState.{WalkState}
 use Rattle.elements.specs.Given.{bytes, refused, Fills, givenOf}
 use Rattle.whole.specs.Step.{step}
@@ -23,6 +24,9 @@ use Rattle.index.specs.Plan.{Indexes, fillingOf, countedOf, counted}
 use Rattle.opening.specs.Opened as opening
 use Rattle.joining.specs.declared.answer.Joined.{Joined}
 use Rattle.joining.specs.Join.{Joins}
+use Rattle.spots.specs.declared.place.Rectangle.{Rectangle}
+use Rattle.finds.specs.declared.found.Found.{Found}
+use Rattle.finds.specs.Found.{insideDue, touchingDue, nearestDue, givenFound, spotOf}
 
 -- `step` answers r to the input s and the state w
 abbrev pub Stepped : List ℕ → WalkState → Answer → Type 0
@@ -61,6 +65,18 @@ pub record Union : Type 0 where
   pub answer : Joined
   pub buffer : List ℕ
 
+-- `inside` answers r to the input s, the entries es, the number i, the rectangle b and the list l, which becomes n
+abbrev pub Inside : List ℕ → List LabelEntry → ℕ → Rectangle → List ℕ → List ℕ → Found → Type 0
+Inside s es i b l n r = Fills n l (insideDue s es i b) (givenFound r)
+
+-- `touching`, likewise
+abbrev pub Touching : List ℕ → List LabelEntry → ℕ → Rectangle → List ℕ → List ℕ → Found → Type 0
+Touching s es i b l n r = Fills n l (touchingDue s es i b) (givenFound r)
+
+-- `nearest` answers r to the input s, the entries es, the number i and the point q
+abbrev pub Nearest : List ℕ → List LabelEntry → ℕ → LabelPosition → Found → Type 0
+Nearest s es i q r = spotOf r ≡ nearestDue s es i q
+
 -- what a call that fills a lent buffer answers, and the buffer afterwards
 pub record Filling : Type 0 where
   pub answer : Filled
@@ -71,6 +87,11 @@ pub record Entering : Type 0 where
   pub answer : Indexed
   pub list : List LabelEntry
 
+-- what a call that fills a lent list of numbers answers, and the list afterwards
+pub record Finding : Type 0 where
+  pub answer : Found
+  pub list : List ℕ
+
 -- functions of the input and the state, or of the input and the buffer as it came, that meet these contracts
 pub record Library : Type 0 where
   pub step : List ℕ → WalkState → Answer
@@ -80,6 +101,9 @@ pub record Library : Type 0 where
   pub strict-list : List ℕ → List ℕ → Filling
   pub index : List ℕ → List LabelEntry → Entering
   pub open-label : List ℕ → List LabelEntry → ℕ → List ℕ → Filling
+  pub inside : List ℕ → List LabelEntry → ℕ → Rectangle → List ℕ → Finding
+  pub touching : List ℕ → List LabelEntry → ℕ → Rectangle → List ℕ → Finding
+  pub nearest : List ℕ → List LabelEntry → ℕ → LabelPosition → Found
   pub steps : (s : List ℕ) (w : WalkState) → Stepped s w (step s w)
   pub lists : (s l : List ℕ) → Listed s l (list s l .buffer) (list s l .answer)
   pub normalises : (s l : List ℕ) → Normalised s l (normalise s l .buffer) (normalise s l .answer)
@@ -91,6 +115,11 @@ pub record Library : Type 0 where
   -- two files and the buffer
   pub join : List ℕ → List ℕ → List ℕ → Union
   pub unites : (s t l : List ℕ) → JoinedBy s t l (join s t l .buffer) (join s t l .answer)
+  pub insides : (s : List ℕ) (es : List LabelEntry) (i : ℕ) (b : Rectangle) (l : List ℕ)
+      → Inside s es i b l (inside s es i b l .list) (inside s es i b l .answer)
+  pub touches : (s : List ℕ) (es : List LabelEntry) (i : ℕ) (b : Rectangle) (l : List ℕ)
+      → Touching s es i b l (touching s es i b l .list) (touching s es i b l .answer)
+  pub nears : (s : List ℕ) (es : List LabelEntry) (i : ℕ) (q : LabelPosition) → Nearest s es i q (nearest s es i q)
 
 -- ---- what a call did, from its answer and its buffer alone
 
@@ -128,3 +157,14 @@ pub record JoinGives (t l : List ℕ) (c : Union) : Type 0 where
   pub room : length t ≤ length l
       → (c .answer ≡ record { number = 0; file = 0; place = length t }) × (c .buffer ≡ t ++ drop (length t) l)
   pub short : length l < length t → JoinDenies 15 0 (length t) l c
+
+-- the same of a call that was lent the list of numbers l
+abbrev pub DeniesNumbers : ℕ → ℕ → List ℕ → Finding → Type 0
+DeniesNumbers n p l c = (givenFound (c .answer) ≡ refused n p) × (c .list ≡ l)
+
+-- the numbers ns stand from the start of l on and how many there are is given, the numbers behind them keep their
+-- values; "a lent list too short for them is 15"
+pub record GivesNumbers (ns l : List ℕ) (c : Finding) : Type 0 where
+  pub room : length ns ≤ length l
+      → (givenFound (c .answer) ≡ bytes (length ns)) × (c .list ≡ ns ++ drop (length ns) l)
+  pub short : length l < length ns → DeniesNumbers 15 (length ns) l c

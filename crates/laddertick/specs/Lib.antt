@@ -18,3 +18,4 @@ pub mod Indexed
 -- pairs of files, joined
 pub mod Joined
 pub mod Changed
+pub mod Lying

@@ -41,7 +41,14 @@ use Rattle.opening.proofs.label.open_label as open-label-fn
 use Rattle.joining.proofs.join.join.Statement as join
 use Rattle.joining.proofs.join.join.Kinds as join-kinds
 use Rattle.joining.proofs.join.join.Reads as join-reads
+use Rattle.finds.proofs.find.inside.Statement as inside
+use Rattle.finds.proofs.find.inside as inside-fn
+use Rattle.finds.proofs.find.touching.Statement as touching
+use Rattle.finds.proofs.find.touching as touching-fn
+use Rattle.finds.proofs.nearest.nearest.Statement as nearest
+use Rattle.finds.proofs.nearest.nearest as nearest-fn
 use Rattle.laddertick.specs.Contracts.{Stepped, Listed, Normalised, Judged, StrictlyListed, Entered, Opened, JoinedBy}
+use Rattle.laddertick.specs.Contracts.{Inside, Touching, Nearest}
 
 -- what is said of the arguments, the result and the arguments at exit by the first is said by the second
 abbrev pub Owes : (n : ℕ) (ps : List (PK n)) (r : RK n) → Out n ps r → Out n ps r → Type 0
@@ -69,6 +76,9 @@ pub record Proved : Type 2 where
   pub strict-list : {M : Type 1} → strict-list.statement M
   pub index : {M : Type 1} → index.statement M
   pub open-label : {M : Type 1} → open-label.statement M
+  pub inside : {M : Type 1} → inside.statement M
+  pub touching : {M : Type 1} → touching.statement M
+  pub nearest : {M : Type 1} → nearest.statement M
   -- a are the arguments, r the result, z the arguments at exit: the input, then the state or the buffer
   pub start-owes : Owes 0 start-kinds.ps start-kinds.r start-reads.Post (λ κs a r z. r ≡ fresh)
   pub step-owes : Owes 1 step-kinds.ps step-kinds.r step-reads.Post (λ κs a r z. Stepped (a .0 .now) (a .1 .0) r)
@@ -87,3 +97,12 @@ pub record Proved : Type 2 where
   pub join : {M : Type 1} → join.statement M
   pub join-owes : Owes 3 join-kinds.ps join-kinds.r join-reads.Post
       (λ κs a r z. JoinedBy (a .0 .now) (a .1 .0 .now) (a .1 .1 .0 .now) (z .1 .1 .0 .now) r)
+  -- the input, the entries, the number, the rectangle or the point, and the list of numbers
+  pub inside-says : Says inside-fn.ended (λ M. inside-fn.clauses {M = M})
+      (λ κs a r z. Inside (a .0 .now) (a .1 .0 .now) (a .1 .1 .0) (a .1 .1 .1 .0) (a .1 .1 .1 .1 .0 .now)
+      (z .1 .1 .1 .1 .0 .now) r)
+  pub touching-says : Says touching-fn.ended (λ M. touching-fn.clauses {M = M})
+      (λ κs a r z. Touching (a .0 .now) (a .1 .0 .now) (a .1 .1 .0) (a .1 .1 .1 .0) (a .1 .1 .1 .1 .0 .now)
+      (z .1 .1 .1 .1 .0 .now) r)
+  pub nearest-says : Says nearest-fn.ended (λ M. nearest-fn.clauses {M = M})
+      (λ κs a r z. Nearest (a .0 .now) (a .1 .0 .now) (a .1 .1 .0) (a .1 .1 .1 .0) r)

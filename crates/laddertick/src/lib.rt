@@ -1,6 +1,7 @@
 // The host's entry points: a walk a step at a time, the listing of a file, and its normalised text; the well-site
-// profile's verdict on a file, and its listing under the profile; the label index, and one label opened; two files joined;
-// with every type that a host is handed. What is claimed of them stands in specs/Claims.antt.
+// profile's verdict on a file, and its listing under the profile; the label index, and one label opened; what lies where
+// on a label; two files joined; with every type that a host is handed. What is claimed of them stands in
+// specs/Claims.antt.
 pub use elements::Barcode2of5;
 pub use elements::Barcode2of5WithData;
 pub use elements::Barcode39;
@@ -41,6 +42,10 @@ pub use elements::filled::Filled;
 pub use elements::refusal::Refusal;
 pub use elements::walk_state::WalkState;
 pub use elements::walk_state::start;
+pub use finds::find::inside;
+pub use finds::find::touching;
+pub use finds::found::Found;
+pub use finds::nearest::nearest;
 pub use format::normalise::normalise;
 pub use frames::listing::list;
 pub use index::entry::LabelEntry;
@@ -49,6 +54,7 @@ pub use index::labels::index;
 pub use joining::answer::Joined;
 pub use joining::join::join;
 pub use opening::label::open_label;
+pub use spots::place::Rectangle;
 pub use strict::check::check;
 pub use strict::listing::strict_list;
 pub use strict::verdict::Checked;

@@ -5,7 +5,8 @@ use mathlib.Core.Path.{_≡_, refl}
 use lib.ListN.{length}
 use Rattle.elements.specs.Walk.{fresh}
 use Rattle.decoding.specs.Decoding as decoding
-use Rattle.flat.specs.Written.{givenFlat, countedFlat}
+use Rattle.finds.specs.Found.{insideDue, touchingDue, nearestDue}
+use Rattle.flat.specs.Written.{givenFlat, countedFlat, spotFlat}
 use Rattle.elements.specs.Given.{Fills}
 use Rattle.whole.specs.Step as theory
 use Rattle.grammar.specs.Epl.{epl}
@@ -57,6 +58,15 @@ use Rattle.laddertick_c.proofs.laddertick_join.Statement as join
 use Rattle.laddertick_c.proofs.laddertick_join.Kinds as join-kinds
 use Rattle.laddertick_c.proofs.laddertick_join.Reads as join-reads
 use Rattle.laddertick_c.proofs.laddertick_join.Met as join-met
+use Rattle.laddertick_c.proofs.laddertick_inside as inside-fn
+use Rattle.laddertick_c.proofs.laddertick_inside.Statement as inside
+use Rattle.laddertick_c.proofs.laddertick_inside.Met as inside-met
+use Rattle.laddertick_c.proofs.laddertick_touching as touching-fn
+use Rattle.laddertick_c.proofs.laddertick_touching.Statement as touching
+use Rattle.laddertick_c.proofs.laddertick_touching.Met as touching-met
+use Rattle.laddertick_c.proofs.laddertick_nearest as nearest-fn
+use Rattle.laddertick_c.proofs.laddertick_nearest.Statement as nearest
+use Rattle.laddertick_c.proofs.laddertick_nearest.Met as nearest-met
 
 pub record Proved : Type 2 where
   pub start : {M : Type 1} → start.statement M
@@ -68,6 +78,9 @@ pub record Proved : Type 2 where
   pub strict-list : {M : Type 1} → strict-list.statement M
   pub index : {M : Type 1} → index.statement M
   pub open-label : {M : Type 1} → open-label.statement M
+  pub inside : {M : Type 1} → inside.statement M
+  pub touching : {M : Type 1} → touching.statement M
+  pub nearest : {M : Type 1} → nearest.statement M
   pub start-owes : Owes 0 start-kinds.ps start-kinds.r start-reads.Post (λ κs a r z. r ≡ fresh)
   pub step-owes : Owes 1 step-kinds.ps step-kinds.r step-reads.Post (λ κs a r z. r ≡ flatOf (theory.step epl (a .0 .now) (stateOf (a .1 .0))))
   pub decode-owes : Owes 2 decode-kinds.ps decode-kinds.r decode-reads.Post
@@ -81,6 +94,9 @@ pub record Proved : Type 2 where
   pub join : {M : Type 1} → join.statement M
   pub join-owes : Owes 3 join-kinds.ps join-kinds.r join-reads.Post
       (λ κs a r z. Joins (z .1 .1 .0 .now) (a .1 .1 .0 .now) (a .0 .now) (a .1 .0 .now) r)
+  pub inside-says : Says inside-fn.ended (λ M. inside-fn.clauses {M = M}) (λ κs a r z. Fills (z .1 .1 .1 .1 .0 .now) (a .1 .1 .1 .1 .0 .now) (insideDue (a .0 .now) (a .1 .0 .now) (a .1 .1 .0) (a .1 .1 .1 .0)) (givenFlat r))
+  pub touching-says : Says touching-fn.ended (λ M. touching-fn.clauses {M = M}) (λ κs a r z. Fills (z .1 .1 .1 .1 .0 .now) (a .1 .1 .1 .1 .0 .now) (touchingDue (a .0 .now) (a .1 .0 .now) (a .1 .1 .0) (a .1 .1 .1 .0)) (givenFlat r))
+  pub nearest-says : Says nearest-fn.ended (λ M. nearest-fn.clauses {M = M}) (λ κs a r z. spotFlat r ≡ nearestDue (a .0 .now) (a .1 .0 .now) (a .1 .1 .0) (record { x = a .1 .1 .1 .0; y = a .1 .1 .1 .1 .0 }))
 
 pub proved : Proved
 proved = record {
@@ -93,6 +109,9 @@ proved = record {
   strict-list = strict-list-met.met;
   index = index-met.met;
   open-label = open-met.met;
+  inside = inside-met.met;
+  touching = touching-met.met;
+  nearest = nearest-met.met;
   start-owes = λ κs a r z p. p;
   step-owes = λ κs a r z p. p;
   decode-owes = λ κs a r z p. p;
@@ -104,4 +123,7 @@ proved = record {
   open-label-says = λ M 𝓤 H A mem run κs a g. (refl, λ r z. refl);
   join = join-met.met;
   join-owes = λ κs a r z p. p;
+  inside-says = λ M 𝓤 H A mem run κs a g. (refl, λ r z. refl);
+  touching-says = λ M 𝓤 H A mem run κs a g. (refl, λ r z. refl);
+  nearest-says = λ M 𝓤 H A mem run κs a g. (refl, λ r z. refl);
 }

@@ -5,7 +5,8 @@ ghost use Rattle.elements.specs.Given.{Fills};
 ghost use Rattle.whole.specs.Step as theory;
 ghost use Rattle.grammar.specs.Epl.{epl};
 ghost use Rattle.decoding.specs.Decoding as decoding;
-ghost use Rattle.flat.specs.Written.{givenFlat, countedFlat};
+ghost use Rattle.finds.specs.Found.{insideDue, touchingDue, nearestDue};
+ghost use Rattle.flat.specs.Written.{givenFlat, countedFlat, spotFlat};
 ghost use Rattle.format.specs.Normalise as normalise;
 ghost use Rattle.frames.specs.Listing as listing;
 ghost use Rattle.index.specs.Plan.{Indexes, fillingOf};
@@ -22,20 +23,26 @@ use flat::answer::FlatAnswer;
 use flat::steps::flat_step;
 use flat::written::Written;
 use flat::written::of_filled;
+use flat::written::of_found;
 use flat::written::of_indexed;
 use laddertick::Checked;
 use laddertick::Joined;
 use laddertick::LabelEntry;
+use laddertick::LabelPosition;
+use laddertick::Rectangle;
 use laddertick::WalkState;
 use laddertick::check;
 use laddertick::index;
 use laddertick::join;
+use laddertick::inside;
 use laddertick::list;
+use laddertick::nearest;
 use laddertick::normalise;
 use laddertick::open_label;
 use laddertick::start;
 use laddertick::step;
 use laddertick::strict_list;
+use laddertick::touching;
 
 // The state before the first byte.
 #[no_mangle]
@@ -124,4 +131,54 @@ pub extern "C" fn laddertick_join(first: &[u8], second: &[u8], out: &mut [u8]) -
     ensures { λ r. ⌜ Joins (now (out .exit)) (now (out .entry)) (now (first .entry)) (now (second .entry)) r ⌝ }
 {
     join(first, second, out)
+}
+
+// The numbers of the elements of one label whose position lies in a rectangle, from the start of the list; or a refusal
+// that leaves the list as it came.
+#[no_mangle]
+pub extern "C" fn laddertick_inside(
+    input: &[u8],
+    entries: &[LabelEntry],
+    number: usize,
+    r: Rectangle,
+    list: &mut [usize],
+) -> Written
+    ensures { λ a. ⌜ Fills (now (list .exit)) (now (list .entry)) (insideDue (now (input .entry)) (now (entries .entry)) number r) (givenFlat a) ⌝ }
+{
+    of_found(inside(input, entries, number, r, list))
+}
+
+// The numbers of the boxes and diagonals of one label whose own rectangle shares a point with another, likewise.
+#[no_mangle]
+pub extern "C" fn laddertick_touching(
+    input: &[u8],
+    entries: &[LabelEntry],
+    number: usize,
+    r: Rectangle,
+    list: &mut [usize],
+) -> Written
+    ensures { λ a. ⌜ Fills (now (list .exit)) (now (list .entry)) (touchingDue (now (input .entry)) (now (entries .entry)) number r) (givenFlat a) ⌝ }
+{
+    of_found(touching(input, entries, number, r, list))
+}
+
+fn point(x: i32, y: i32) -> LabelPosition
+    ensures { λ r. ⌜ r ≡ record { x = x; y = y } ⌝ }
+{
+    LabelPosition { x, y }
+}
+
+// The number of the element of one label whose position is nearest to a point; or a refusal.
+#[no_mangle]
+pub extern "C" fn laddertick_nearest(
+    input: &[u8],
+    entries: &[LabelEntry],
+    number: usize,
+    x: i32,
+    y: i32,
+) -> Written
+    ensures { λ a. ⌜ spotFlat a ≡ nearestDue (now (input .entry)) (now (entries .entry)) number (record { x = x; y = y }) ⌝ }
+{
+    let q = point(x, y);
+    of_found(nearest(input, entries, number, q))
 }

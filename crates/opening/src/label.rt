@@ -2,8 +2,9 @@
 ghost use mathlib.Core.Path.{_≡_};
 ghost use Rattle.elements.specs.Given.{Fills, givenOf};
 ghost use Rattle.opening.specs.Opened.{dueOf, firstDue, entryDue, Finds};
+use crate::start::Start;
+use crate::start::start_of;
 use elements::filled::Filled;
-use elements::refusal::LONGEST;
 use elements::refusal::Refusal;
 use elements::walk_state::WalkState;
 use frame_lines::frame::frame_len;
@@ -69,30 +70,14 @@ fn open_first(input: &[u8], st: WalkState, i: usize, out: &mut [u8]) -> Filled
     }
 }
 
-// The label of the entry e with the number i, out of n entries. Its own count is not looked at.
+// The label of the entry e with the number i, out of n entries.
 pub(crate) fn open_entry(input: &[u8], out: &mut [u8], n: usize, i: usize, e: LabelEntry) -> Filled
     ensures { λ r. ⌜ Fills (now (out .exit)) (now (out .entry)) (entryDue (now (input .entry)) n i e) (givenOf r) ⌝ }
 {
-    if LONGEST < input.len() {
-        return Filled::Refused(Refusal::InputTooLong, 0);
+    match start_of(input.len(), n, i, e) {
+        Start::Denied(k, p) => Filled::Refused(k, p),
+        Start::At(st, last) => open_first(&input[..last], st, i, out),
     }
-    if n <= i {
-        return Filled::Refused(Refusal::NoSuchLabel, i);
-    }
-    let last = e.last;
-    if input.len() < last {
-        return Filled::Refused(Refusal::StateOutside, last);
-    }
-    if last < e.first {
-        return Filled::Refused(Refusal::StateOutside, last);
-    }
-    let reference = e.reference;
-    let st = WalkState {
-        reference,
-        pending: 0,
-        place: e.first,
-    };
-    open_first(&input[..last], st, i, out)
 }
 
 // The lines of the listing for the label with this number, from the start of out; or a refusal that leaves out as it

@@ -9,15 +9,16 @@ use Rattle.element_frames.specs.Frame.{frameOf}
 use Rattle.element_frames.specs.Hex.{lineOf}
 use Rattle.element_frames.proofs.HexLaws.{length-line}
 use Rattle.whole.specs.Trace.{stops, refuses, clears, prints, after, lead, trace}
+use Rattle.whole.specs.Index.{firstIn}
 use Rattle.grammar.specs.Epl.{epl}
 use Rattle.elements.specs.Refusals.{numberOf}
-use Rattle.walk.specs.Steps.{stateOf, traceOf}
+use Rattle.walk.specs.Steps.{EplTrace, stateOf, traceOf}
 use Rattle.walk.specs.declared.answer.Answer.{Answer}
 use Rattle.walk.specs.declared.answer.Answer.the-variants.{Element, Clear, Print, End, Refused}
 use Rattle.walk.proofs.WalkLaws.{onStep, Moved, moved-by}
 use Rattle.frames.specs.Listing.{linesOf, frontFrames}
 use Rattle.frames.proofs.ListingLaws.{lead-by, after-by, length-label, frame-len-le, frame-len-is}
-use Rattle.opening.specs.Opened.{firstDue}
+use Rattle.opening.specs.Opened.{openingDue, firstDue}
 use Rattle.opening.proofs.FirstLaws.{first-by}
 use borrow.Author.Needs.{needs}
 use Rattle.opening.proofs.label.measure_first.Statement.{statement}
@@ -43,6 +44,10 @@ follows d q k = let l = d .before .loop in after-by (source d) (l .here) (d .ste
 coming : (d : tie.After-step Inv-loop μ-loop) (q : Answer) → d .step .result ≡ q
     → length (linesOf (frontFrames (source d) (d .before .loop .here))) ≡ length (linesOf (lead epl (List ℕ) frameOf (source d) (onStep (source d) q)))
 coming d q k = ap length (lead-by (source d) (d .before .loop .here) (d .step .result) q (d .step .ensures) k)
+
+due-by : (d : tie.After-step Inv-loop μ-loop) (t : EplTrace) → after (traceOf (source d) (d .before .loop .first)) ≡ t
+    → firstDue (source d) (d .before .loop .first) (d .before .before .before .args .i) ≡ openingDue (firstIn epl (List ℕ) frameOf (d .before .before .before .args .i) (source d) (frontFrames (source d) (d .before .loop .first)) t)
+due-by d t e = ap openingDue (first-by (List ℕ) frameOf (source d) (d .before .before .before .args .i) (d .before .loop .first) t e)
 
 moved : (d : tie.After-step Inv-loop μ-loop) (q : Answer) → d .step .result ≡ q → Moved (source d) (d .before .loop .here) q
 moved d q k = moved-by (source d) (d .before .loop .here) (d .step .result) q (d .step .ensures) k
@@ -116,7 +121,7 @@ loop-again-2 c =
     let d = c .before .before .before in
     let l = d .before .loop in
     let g = c .before .next2 .given in
-    (l .inv .0 ∙ first-by (source d) (d .before .before .before .args .i) (l .first) (clears (trace epl (source d) (stateOf (g .0 .0)))) (follows d (Clear (g .0 .0)) (g .1)), refl, omega arith, omega arith)
+    (l .inv .0 ∙ due-by d (clears (trace epl (source d) (stateOf (g .0 .0)))) (follows d (Clear (g .0 .0)) (g .1)), refl, omega arith, omega arith)
 
 enum-known-p : tie.Need-enum-known-p Inv-loop μ-loop
 enum-known-p c = search needs
@@ -134,7 +139,7 @@ returns c =
     let l = d .before .loop in
     let g = c .before .p .given in
     let q = Print (g .0 .0) (g .0 .1 .0) in (
-      l .inv .0 ∙ first-by (source d) (d .before .before .before .args .i) (l .first) (prints (g .0 .1 .0 .count) (g .0 .1 .0 .counts) (trace epl (source d) (stateOf (g .0 .0)))) (follows d q (g .1)),
+      l .inv .0 ∙ due-by d (prints (g .0 .1 .0 .count) (g .0 .1 .0 .counts) (trace epl (source d) (stateOf (g .0 .0)))) (follows d q (g .1)),
       omega (arith, length-label (g .0 .1 .0 .count) (g .0 .1 .0 .counts) (frontFrames (source d) (l .first)), l .inv .2, coming d q (g .1)),
     )
 
@@ -146,7 +151,7 @@ returns-2 c =
     let d = c .before .before in
     let l = d .before .loop in
     let g = c .enum-told .given in
-    l .inv .0 ∙ first-by (source d) (d .before .before .before .args .i) (l .first) (stops (g .0 .0 .pending)) (follows d (End (g .0 .0)) (g .1))
+    l .inv .0 ∙ due-by d (stops (g .0 .0 .pending)) (follows d (End (g .0 .0)) (g .1))
 
 enum-known-k : tie.Need-enum-known-k Inv-loop μ-loop
 enum-known-k c = search needs
@@ -156,7 +161,7 @@ returns-3 c =
     let d = c .before .before .before in
     let l = d .before .loop in
     let g = c .before .k .given in
-    l .inv .0 ∙ first-by (source d) (d .before .before .before .args .i) (l .first) (refuses (numberOf (g .0 .1 .0)) (g .0 .1 .1 .0)) (follows d (Refused (g .0 .0) (g .0 .1 .0) (g .0 .1 .1 .0)) (g .1))
+    l .inv .0 ∙ due-by d (refuses (numberOf (g .0 .1 .0)) (g .0 .1 .1 .0)) (follows d (Refused (g .0 .0) (g .0 .1 .0) (g .0 .1 .1 .0)) (g .1))
 
 pub measure-first-spec : {M : Type 1} → statement M
 measure-first-spec =

@@ -1,68 +1,46 @@
--- `opening::label::open_entry` meets its contract: the tests in their order, then the walk of the file that is cut at
--- the entry's last place. Assumes nothing.
-use mathlib.Core.Path.{sym, ap, _∙_}
+-- `opening::label::open_entry` meets its contract: where the walk starts, then the walk of the file that is cut at the
+-- entry's last place. Assumes nothing.
+use mathlib.Core.Path.{_≡_, sym, ap, subst, _∙_}
+use mathlib.Core.List.{List}
+use Prim.Native.Nat.{ℕ}
 use lib.ListN.{length}
 use lib.Seq.{length-take-le}
-use Rattle.elements.specs.Given.{Due, fitting, needed, stored}
+use Rattle.element_frames.specs.Frame.{frameOf}
+use Rattle.elements.specs.Given.{Due, Fills, givenOf}
 use Rattle.elements.proofs.GivenLaws.{fills-denied}
-use Rattle.opening.proofs.FirstLaws.{entry-long, entry-past, entry-beyond, entry-backwards, entry-walked}
+use Rattle.opening.specs.Opened.{openingDue, startedOpening, entryDue}
+use Rattle.opening.specs.declared.start.Start.{Start}
+use Rattle.opening.specs.declared.start.Start.the-variants.{At, Denied}
+use Rattle.opening.proofs.FirstLaws.{start-at}
 use borrow.Author.Needs.{needs}
 use Rattle.opening.proofs.label.open_entry.Statement.{statement}
 use Rattle.opening.proofs.label.open_entry.Tie as tie
 
-returns : tie.Need-returns
-returns c = let a = c .before .before .before .args in fills-denied (a .out .now) (entry-long (a .input .now) (a .n) (a .i) (a .e) (c .if1 .taken))
-
-returns-2 : tie.Need-returns-2
-returns-2 c =
-    let a = c .before .before .before .before .args in
-    fills-denied (a .out .now) (entry-past (a .input .now) (a .n) (a .i) (a .e) (c .before .if1 .left) (c .if2 .taken))
-
-returns-3 : tie.Need-returns-3
-returns-3 c =
-    let a = c .before .before .before .before .before .args in
-    fills-denied (a .out .now) (entry-beyond (a .input .now) (a .n) (a .i) (a .e) (c .before .before .if1 .left) (c .before .if2 .left) (c .if3 .taken))
-
-returns-4 : tie.Need-returns-4
-returns-4 c =
-    let l = c .before .before in
-    let a = l .before .before .before .before .before .args in
-    fills-denied (a .out .now) (entry-backwards (a .input .now) (a .n) (a .i) (a .e) (l .before .before .if1 .left) (l .before .if2 .left) (l .if3 .left) (c .if4 .taken))
+-- what is due, by the start that was matched
+due-by : (m : tie.After-start-of) (q : Start) → m .start-of .result ≡ q
+    → entryDue (m .before .before .before .args .input .now) (m .before .before .before .args .n) (m .before .before .before .args .i) (m .before .before .before .args .e)
+    ≡ openingDue (startedOpening (List ℕ) frameOf (m .before .before .before .args .input .now) (m .before .before .before .args .i) q)
+due-by m q k = let a = m .before .before .before .args in ap (λ (x : Start). openingDue (startedOpening (List ℕ) frameOf (a .input .now) (a .i) x)) (sym (m .start-of .ensures) ∙ k)
 
 slice-aggregate-open-first : tie.Need-slice-aggregate-open-first
 slice-aggregate-open-first c =
-    let l = c .before .before .before .before in
-    let a = l .before .before .before .before .before .args in
-    sym (length-take-le (a .e .last) (a .input .now) (l .if3 .left))
+    let m = c .before .before .before .before in
+    let a = m .before .before .before .args in
+    let g = c .before .before .st .given in
+    sym (length-take-le (g .0 .1 .0) (a .input .now) (start-at (length (a .input .now)) (a .n) (a .i) (a .e) (g .0 .0) (g .0 .1 .0) (sym (m .start-of .ensures) ∙ g .1) .0))
 
-open-first-requires : tie.Need-open-first-requires
-open-first-requires c κs = search needs
+returns : tie.Need-returns
+returns c =
+    let m = c .before .before .before in
+    let g = c .before .k .given in
+    fills-denied (m .before .before .before .args .out .now) (due-by m (Denied (g .0 .0) (g .0 .1 .0)) (g .1))
 
-same-length : tie.Need-same-length
-same-length c = search needs
-
-returns-5 : tie.Need-returns-5
-returns-5 c =
+returns-2 : tie.Need-returns-2
+returns-2 c =
     let p = c .before .before in
-    let f = p .before .before .before .before in
-    let l = f .before .before in
-    let a = l .before .before .before .before .before .args in
-    let w = p .open-first .ensures in
-    let e = sym (entry-walked (a .input .now) (a .n) (a .i) (a .e) (l .before .before .if1 .left) (l .before .if2 .left) (l .if3 .left) (f .if4 .left)) in
-    record {
-      answer = w .answer ∙ ap (λ (u : Due). needed (fitting u (length (a .out .now)))) e;
-      buffer = w .buffer ∙ ap (λ (u : Due). stored (fitting u (length (a .out .now))) (a .out .now)) e;
-    }
+    let m = p .before .before .before .before .before .before in
+    let g = p .before .before .before .before .st .given in
+    subst (λ (u : Due). Fills (p .open-first .last .1 .1 .1 .0) (m .before .before .before .args .out .now) u (givenOf (p .open-first .result))) (sym (due-by m (At (g .0 .0) (g .0 .1 .0)) (g .1))) (p .open-first .ensures)
 
 pub open-entry-spec : {M : Type 1} → statement M
-open-entry-spec =
-    tie.close
-    (tie.spec
-    returns
-    returns-2
-    returns-3
-    returns-4
-    slice-aggregate-open-first
-    open-first-requires
-    same-length
-    returns-5)
+open-entry-spec = tie.close (tie.spec (λ c κs. search needs) (λ c. search needs) (λ c. search needs) slice-aggregate-open-first (λ c κs. search needs) returns (λ c. search needs) returns-2)

@@ -1,0 +1,6 @@
+-- 01, "What lies where": what is due to the three calls
+pub mod Found
+-- inner: the elements of a walk, counted and numbered
+pub mod Find
+-- inner: the nearest so far
+pub mod Nearest

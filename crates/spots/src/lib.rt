@@ -1,0 +1,3 @@
+// One element of a label against a rectangle or a point (01, "What lies where").
+pub mod element;
+pub mod place;
