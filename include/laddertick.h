@@ -59,8 +59,10 @@ enum {
     /* The host again, with the label index: */
     LADDERTICK_TOO_MANY_LABELS = 20, /* more labels than entries are lent; the place is the label count */
     LADDERTICK_NO_SUCH_LABEL = 21,   /* a number past the list, or an entry that yields no label; the place is the number */
-    /* The host, with what lies where: */
+    /* The host again, with what lies where: */
     LADDERTICK_RECTANGLE_TURNED = 22, /* a rectangle whose far corner is below its near one on either axis; the place is 0 */
+    /* The author again, in laddertick_to_300 alone: a label with a graphic; the place is the first byte of its first block, blanks included. */
+    LADDERTICK_GRAPHIC_IN_LABEL = 24,
     /* The host, by laddertick_join alone: a joined text of more than LADDERTICK_LONGEST bytes; the place is its length. */
     LADDERTICK_JOINED_TOO_LONG = 25
 };
@@ -284,6 +286,60 @@ laddertick_written laddertick_touching(const uint8_t *input, size_t input_len, c
 /* The element of one label whose position is nearest to a point, by the larger of the distances along x and y; the earlier one if equal. number 0: `place` is its
    number, from 0. Refusals: those of laddertick_open but 15, in the same order. */
 laddertick_written laddertick_nearest(const uint8_t *input, size_t input_len, const laddertick_entry *entries, size_t entries_len, size_t number, int32_t x, int32_t y);
+
+/* ---- from 203 to 300 dots an inch ---- */
+
+/* An element for a printer of 300 dots an inch: the fields of laddertick_element, in a type of its own, so that no element at 203 dots passes for one. */
+typedef struct laddertick_element_300 {
+    uint8_t kind;
+    uint8_t rotation;
+    uint8_t reverse;
+    uint8_t colour;
+    uint8_t direction;
+    uint8_t line;
+    uint8_t check;
+    uint8_t truncate;
+    uint8_t level;
+    int32_t x;
+    int32_t y;
+    int32_t width;
+    int32_t height;
+    int32_t thickness;
+    int32_t row_bytes;
+    int32_t security;
+    int32_t columns;
+    int32_t rows;
+    int32_t magnification;
+    int32_t size;
+    int32_t mode;
+    int32_t font;
+    int32_t horizontal;
+    int32_t vertical;
+    int32_t wide;
+    double text_height;
+    double text_width;
+    double ratio;
+    size_t data_start;
+    size_t data_len;
+} laddertick_element_300;
+
+/* number 0: `place` elements are written, from the start of the list; elements past them keep their values; sets and copies are those of the label's print. Else
+   a refusal, the list is as it came, and sets and copies are 0. To learn how many elements there are lend none: 15 gives it. */
+typedef struct laddertick_label {
+    uint32_t number;
+    size_t place;
+    int32_t sets;
+    int32_t copies;
+} laddertick_label;
+
+/* The elements of one label, set for 203 dots an inch, for 300: x and y, width, height and thickness of boxes and diagonals and the height of 1D bar codes become the
+   nearest whole number to 300/203 of the old, and all else stays as it is (fonts and text sizes, narrow and wide bars, modules, row heights, magnifications, data). So
+   203 times the new number differs from 300 times the old by at most 101, also below zero, and positions keep their order along each axis. `entries` and `number` are those
+   of laddertick_open.
+   Refusals, in this order: those of laddertick_open but 15; 24 where the label has a graphic; 13 or 19 where a new number is outside 32 bits (13 of a position, 19 of
+   another length), at the first line that has one; 15, the place is the element count. */
+laddertick_label laddertick_to_300(const uint8_t *input, size_t input_len, const laddertick_entry *entries, size_t entries_len, size_t number,
+                                   laddertick_element_300 *list, size_t list_len);
 
 #ifdef __cplusplus
 }

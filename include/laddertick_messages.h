@@ -33,6 +33,7 @@
     X(20, "more labels than the list has entries") \
     X(21, "no such label") \
     X(22, "the far corner is below the near one") \
+    X(24, "a label with a graphic, which cannot be set for another resolution") \
     X(25, "a joined text of more than 16,777,216 bytes")
 /* clang-format on */
 

@@ -131,7 +131,8 @@ static int refuse(const char *name, bytes input, unsigned number, size_t place)
 {
     put_name(name);
     fprintf(stderr, "refused (%u): %s\n", number, MESSAGES[number]);
-    if (number < LADDERTICK_INPUT_TOO_LONG || (number > LADDERTICK_STATE_OUTSIDE && number <= LADDERTICK_SIZE_OUT_OF_RANGE)) {
+    if (number < LADDERTICK_INPUT_TOO_LONG || (number > LADDERTICK_STATE_OUTSIDE && number <= LADDERTICK_SIZE_OUT_OF_RANGE) ||
+        number == LADDERTICK_GRAPHIC_IN_LABEL) {
         size_t line = 1, end = place;
         for (size_t i = 0; i < place; i++)
             line += input.at[i] == '\n';

@@ -19,6 +19,21 @@ pub struct Seen {
     pub labels: usize,
     /// Entries that no index made, by what opening answered: a label, 16, 21, another refusal.
     pub made: [usize; 4],
+    /// Labels to 300 dots, by the answer: converted, 24, 13, 19, another refusal.
+    pub turned: [usize; 5],
+}
+
+impl Seen {
+    /// One conversion more, with this number.
+    pub fn convert(&mut self, number: u32) {
+        self.turned[match number {
+            0 => 0,
+            24 => 1,
+            13 => 2,
+            19 => 3,
+            _ => 4,
+        }] += 1;
+    }
 }
 
 /// Bytes on either side of what is lent.

@@ -2,6 +2,7 @@
 //! come first, all of them, then a few inputs around the length limit, then as many millions of made ones as asked for.
 
 mod compare;
+mod dots;
 mod index;
 mod join;
 mod lying;
@@ -50,6 +51,8 @@ fn main() {
     eprintln!("by the well-site profile: accepted {}, refused 17 {}, 18 {}, the others as plainly", by_profile[0], by_profile[1], by_profile[2]);
     let opened = [0, 1, 2, 3].map(|i| count(&run.made[i]));
     eprintln!("labels indexed and opened: {}; entries that no index made: {} opened, 16 {}, 21 {}, other refusals {}", count(&run.labels), opened[0], opened[1], opened[2], opened[3]);
+    let turned = [0, 1, 2, 3, 4].map(|i| count(&run.turned[i]));
+    eprintln!("labels to 300 dots: {} converted, 24 {}, 13 {}, 19 {}, other refusals {}", turned[0], turned[1], turned[2], turned[3], turned[4]);
     let (cases, differences, accepted) = (count(&run.cases), count(&run.differences), count(&run.accepted));
     let refused: usize = run.refused.iter().map(count).sum();
     let [position, size, kind, maxicode] = [0, 1, 2, 3].map(|i| count(&run.panics[i]));
@@ -85,6 +88,8 @@ struct Run {
     labels: AtomicUsize,
     /// Entries that no index made, by what opening answered: a label, 16, 21, another refusal.
     made: [AtomicUsize; 4],
+    /// Labels to 300 dots, by the answer: converted, 24, 13, 19, another refusal.
+    turned: [AtomicUsize; 5],
     /// By cause: 13; 19; 7, 8 or 9; MaxiCode.
     panics: [AtomicUsize; 4],
 }
@@ -135,7 +140,12 @@ impl Run {
         if let Ok(seen) = &compared {
             self.checked[seen.verdict as usize].fetch_add(1, Relaxed);
             self.labels.fetch_add(seen.labels, Relaxed);
-            self.made.iter().zip(seen.made).for_each(|(counter, n)| drop(counter.fetch_add(n, Relaxed)));
+            self.made.iter().zip(seen.made).for_each(|(counter, n)| {
+                counter.fetch_add(n, Relaxed);
+            });
+            self.turned.iter().zip(seen.turned).for_each(|(counter, n)| {
+                counter.fetch_add(n, Relaxed);
+            });
         }
         if let Err(wrong) = compared {
             if self.differences.fetch_add(1, Relaxed) < SHOWN {

@@ -3,6 +3,7 @@
 
 use crate::compare::{answers, refused, written, Lent, Seen};
 use crate::lying;
+use crate::dots;
 use crate::raw::{self, Entry, Walk, Written};
 use crate::steps;
 use oracle::{Answer, LIMIT};
@@ -18,7 +19,7 @@ pub fn indexed(lent: &mut Lent, input: &[u8], expected: &Answer, seen: &mut Seen
         Answer::Labels(labels) => {
             let entries: Vec<Entry> = oracle::index::entries(input).iter().map(|e| Entry { first: e.first, last: e.last, count: e.count, x: e.x, y: e.y }).collect();
             filled(lent, input, &entries)?;
-            opened(lent, input, &entries, &labels.printed, &mut rng).map_err(|wrong| format!("opening, {wrong}"))?;
+            opened(lent, input, &entries, &labels.printed, &mut rng, seen).map_err(|wrong| format!("opening, {wrong}"))?;
             seen.labels += entries.len();
             places.extend(entries.iter().flat_map(|e| [e.first, e.last]));
         }
@@ -62,7 +63,7 @@ fn fills(lent: &mut Lent, input: &[u8], room: usize, expected: Written, entries:
 
 /// Each label by its number, with exactly enough room. One of them with other room too, and in a copy in which all bytes but its own are others and which ends where it ends. Then
 /// the numbers past the list.
-fn opened(lent: &mut Lent, input: &[u8], entries: &[Entry], listing: &str, rng: &mut Rng) -> Result<(), String> {
+fn opened(lent: &mut Lent, input: &[u8], entries: &[Entry], listing: &str, rng: &mut Rng, seen: &mut Seen) -> Result<(), String> {
     let labels = labels_of(listing);
     if labels.len() != entries.len() {
         return Err(format!("{} labels are listed, and the units have {}", labels.len(), entries.len()));
@@ -79,6 +80,9 @@ fn opened(lent: &mut Lent, input: &[u8], entries: &[Entry], listing: &str, rng: 
         let mut copy = vec![b'X'; entries[number].last];
         copy[entries[number].first..].copy_from_slice(&input[entries[number].first..entries[number].last]);
         written(lent, &open, &copy, labels[number].as_bytes()).map_err(|wrong| format!("label {number} with other bytes around it, {wrong}"))?;
+    }
+    for number in 0..entries.len() {
+        seen.convert(dots::converted(lent, input, entries, number, Ok(()))?);
     }
     for number in [entries.len(), usize::MAX] {
         refused(lent, &|input: &[u8], out: &mut [u8]| raw::open(input, entries, number, out), input, 21, number)?;
@@ -121,7 +125,9 @@ fn made(lent: &mut Lent, input: &[u8], places: &[usize], rng: &mut Rng, seen: &m
         Err((21, _)) => 2,
         Err(_) => 3,
     }] += 1;
-    held.map_err(|wrong| format!("number {number} of {entries:?}, {wrong}"))
+    held.and_then(|()| dots::converted(lent, input, &entries, number, due.map(|_| ())))
+        .map(|k| seen.convert(k))
+        .map_err(|wrong| format!("number {number} of {entries:?}, {wrong}"))
 }
 
 /// Places of the input, mostly where a label begins or ends, and sometimes far outside or in the wrong order.

@@ -107,6 +107,9 @@ static size_t second_len;
 static laddertick_joined joined;
 static laddertick_rectangle rectangle;
 static size_t *numbers, numbers_len;
+static laddertick_element_300 *elements;
+static size_t elements_len;
+static laddertick_label converted;
 
 static void do_step(void) { answer = laddertick_step(input, input_len, walk); }
 static void do_data(void) { written = laddertick_data(input, input_len, start, len, out, out_len); }
@@ -118,6 +121,7 @@ static void do_open(void) { written = laddertick_open(input, input_len, entries,
 static void do_inside(void) { written = laddertick_inside(input, input_len, entries, entries_len, label, rectangle, numbers, numbers_len); }
 static void do_touching(void) { written = laddertick_touching(input, input_len, entries, entries_len, label, rectangle, numbers, numbers_len); }
 static void do_nearest(void) { written = laddertick_nearest(input, input_len, entries, entries_len, label, rectangle.x1, rectangle.y1); }
+static void do_to_300(void) { converted = laddertick_to_300(input, input_len, entries, entries_len, label, elements, elements_len); }
 static void do_normalise(void) { written = laddertick_normalise(input, input_len, out, out_len); }
 
 static void do_join(void)
@@ -148,7 +152,7 @@ static size_t deepest(void)
 
 /* ---- one input ---- */
 
-static region inputs, seconds, outs, lists;
+static region inputs, seconds, outs, lists, drawn;
 static size_t calls;
 static uint64_t seed;
 
@@ -304,12 +308,50 @@ static void indexes(size_t n, int last, laddertick_written due)
         wrong("an entry was changed that is not the answer's");
 }
 
+/* Label i at 300 dots, in lists of no element, one too few, just enough and one to spare: all but the elements of an answer keep their marks. `opened` is what opening answered. */
+static void converts(size_t i, int last, laddertick_written opened)
+{
+    label = i;
+    elements = NULL;
+    elements_len = 0;
+    call("laddertick_to_300", do_to_300);
+    calls++;
+    if (opened.number != 0 && (converted.number != opened.number || converted.place != opened.place))
+        wrong("not refused as opening is");
+    if (opened.number == 0 && converted.number != 15 && converted.number != 13 && converted.number != 19 && converted.number != LADDERTICK_GRAPHIC_IN_LABEL)
+        wrong("a number that is none of a conversion's");
+    laddertick_label first = converted;
+    size_t n = first.number == LADDERTICK_OUTPUT_TOO_SHORT ? first.place : 1, most = (n + 2) * sizeof *elements;
+    for (size_t room = n - 1; room <= n + 1; room++) {
+        int due = first.number == LADDERTICK_OUTPUT_TOO_SHORT && room >= n;
+        uint8_t *marked = placed(drawn, most, last);
+        memset(marked, 0x5a, most);
+        elements = (laddertick_element_300 *)placed(drawn, room * sizeof *elements, last);
+        elements_len = room;
+        call("laddertick_to_300", do_to_300);
+        calls++;
+        if (due ? converted.number != 0 || converted.place != n : converted.number != first.number || converted.place != first.place)
+            wrong("another answer with other room");
+        if (converted.number != 0 && (converted.sets != 0 || converted.copies != 0))
+            wrong("a refusal with sets or copies");
+        uint8_t *list = (uint8_t *)elements;
+        size_t kept = due ? n * sizeof *elements : 0;
+        if (unmarked(marked, (size_t)(list - marked)) + unmarked(list + kept, (size_t)(marked + most - (list + kept))) != 0)
+            wrong("an element was changed that is not the answer's");
+        for (size_t k = 0; due && k < n; k++)
+            if (elements[k].kind < 1 || elements[k].kind > 16 || elements[k].kind == 4 || elements[k].data_start > input_len ||
+                elements[k].data_len > input_len - elements[k].data_start)
+                wrong("an element that no label yields");
+    }
+}
+
 /* Opening label i, in buffers of every size, the list being read and not written; `due` is the number that it is refused by, or 0. */
 static laddertick_written opens(size_t i, int last, unsigned due, size_t place)
 {
     label = i;
     mprotect(lists.at, lists.len, PROT_READ);
     laddertick_written w = writes("laddertick_open", do_open, last);
+    converts(i, last, w);
     if (due != 0 && (w.number != due || w.place != place))
         wrong("not refused as it should be");
     return w;
@@ -550,6 +592,7 @@ int main(int argc, char **argv)
     inputs = map(sizeof bytes);
     seconds = map(sizeof bytes);
     outs = map(16 * sizeof bytes);
+    drawn = map(sizeof bytes * sizeof *elements / 4);
     lists = map(sizeof bytes * sizeof *entries / 4); /* an element and its print line have more than four bytes */
     stack = map(STACK - PAGE);
     memset(stack.at, 0xa5, stack.len);

@@ -111,6 +111,20 @@ static void joined(const char *what, laddertick_joined got, laddertick_joined du
 #undef F
 }
 
+static void element_300(const char *what, laddertick_element_300 got, laddertick_element_300 due)
+{
+#define F(field) number(what, #field, (double)got.field, (double)due.field);
+    FIELDS_laddertick_element_300(F)
+#undef F
+}
+
+static void label(const char *what, laddertick_label got, laddertick_label due)
+{
+#define F(field) number(what, #field, (double)got.field, (double)due.field);
+    FIELDS_laddertick_label(F)
+#undef F
+}
+
 static void bytes(const char *what, const void *got, const void *due, size_t n)
 {
     if (memcmp(got, due, n) != 0) {
@@ -269,6 +283,44 @@ static void spots(void)
     written("nearest past the list", laddertick_nearest(input, input_len, list, 2, 2, 1, 1), (laddertick_written){21, 2});
 }
 
+/* A label at 300 dots: lengths are converted, and all other fields stay. 101 becomes 149, 202 299, 30 44, 40 59, 7 10, 6 9. */
+static void converts(void)
+{
+    static const laddertick_element_300 MARK = {.kind = 91, .x = 92, .data_len = 93};
+    static const laddertick_element_300 DUE[] = {
+        {.kind = 1, .rotation = 3, .reverse = 1, .x = 149, .y = 299, .font = 4, .horizontal = 5, .vertical = 6, .text_height = 144, .text_width = 70, .data_start = 25, .data_len = 7},
+        {.kind = 2, .x = 149, .y = 299, .width = 44, .height = 59, .thickness = 10},
+        {.kind = 3, .direction = 1, .x = 149, .y = 299, .width = 44, .height = 59, .thickness = 10},
+        {.kind = 9, .rotation = 3, .check = 1, .x = 149, .y = 299, .width = 4, .height = 9, .wide = 10, .ratio = 2.5, .data_start = 81, .data_len = 5},
+        {.kind = 11, .rotation = 3, .truncate = 1, .x = 149, .y = 299, .width = 8, .height = 17, .security = 4, .columns = 5, .rows = 6, .data_start = 117, .data_len = 7},
+        {.kind = 12, .x = 149, .y = 299, .magnification = 44, .size = 99, .data_start = 141, .data_len = 5},
+        {.kind = 13, .x = 149, .y = 299, .height = 6, .columns = 4, .rows = 7, .data_start = 164, .data_len = 5},
+        {.kind = 14, .level = 'H', .x = 149, .y = 299, .magnification = 44, .data_start = 185, .data_len = 5},
+        {.kind = 15, .x = 149, .y = 299, .mode = 3, .data_start = 202, .data_len = 5},
+    };
+    enum { N = sizeof DUE / sizeof DUE[0] };
+    laddertick_element_300 list[N + 1];
+    laddertick_entry entry;
+    for (size_t i = 0; i <= N; i++)
+        list[i] = MARK;
+    input = (const uint8_t *)"R100,200\nA1,2,3,4,5,6,R,\"seven77\"\nX1,2,7,31,42\nLS1,2,7,31,42\nB1,2,3,2C,4,10,6,N,\"hello\"\nb1,2,P,o3,y17,s4,l5,r6,t1,x8\"seven77\"\n"
+                             "b1,2,A,d44,e99\"hello\"\nb1,2,D,c4,r7,h6\"hello\"\nb1,2,Q,s44,eH\"hello\"\nb1,2,M,m3\"hello\"\nP5,6\n";
+    input_len = strlen((const char *)input);
+    written("index of a label to convert", laddertick_index(input, input_len, &entry, 1), (laddertick_written){0, 1});
+    label("to_300 into NULL", laddertick_to_300(input, input_len, &entry, 1, 0, NULL, 0), (laddertick_label){.number = 15, .place = N});
+    label("to_300 into too few", laddertick_to_300(input, input_len, &entry, 1, 0, list, N - 1), (laddertick_label){.number = 15, .place = N});
+    element_300("an element at 15", list[0], MARK);
+    label("to_300 past the list", laddertick_to_300(input, input_len, &entry, 1, 7, list, N), (laddertick_label){.number = 21, .place = 7});
+    label("to_300", laddertick_to_300(input, input_len, &entry, 1, 0, list, N + 1), (laddertick_label){.number = 0, .place = N, .sets = 5, .copies = 6});
+    for (size_t i = 0; i < N; i++)
+        element_300("an element at 300 dots", list[i], DUE[i]);
+    element_300("the element behind them", list[N], MARK);
+    entry = (laddertick_entry){0, 22, 1, 0, 0};
+    label("to_300 of a graphic", laddertick_to_300((const uint8_t *)"LO1,1,1,1\n GW0,0,1,1,P", 22, &entry, 1, 0, list, N), (laddertick_label){.number = 21, .place = 0});
+    label("to_300 of a graphic", laddertick_to_300((const uint8_t *)"LO1,1,1,1\n GW0,0,1,1,zP", 23, &(laddertick_entry){0, 23, 1, 0, 0}, 1, 0, list, N), (laddertick_label){.number = 24, .place = 10});
+    label("to_300 of NULL", laddertick_to_300(NULL, 0, NULL, 0, 3, NULL, 0), (laddertick_label){.number = 21, .place = 3});
+}
+
 /* NULL of length 0, for an input and for a buffer: an empty file, and no room. */
 static void null(void)
 {
@@ -306,6 +358,7 @@ int main(void)
     indexes();
     joins();
     spots();
+    converts();
     null();
     printf("layout: %zu answers of a step, every field of each: %s\n", looked_at, wrong ? "some are wrong" : "all as 01 says");
     return wrong;

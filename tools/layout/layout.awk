@@ -5,12 +5,12 @@ BEGIN {
   if (to == "c") {
     host["FlatAnswer"] = "laddertick_answer"; host["Element"] = "laddertick_element"; host["WalkState"] = "laddertick_walk"; host["Written"] = "laddertick_written"
     host["Checked"] = "laddertick_checked"; host["LabelEntry"] = "laddertick_entry"
-    host["Joined"] = "laddertick_joined"; host["Rectangle"] = "laddertick_rectangle"
+    host["Joined"] = "laddertick_joined"; host["Rectangle"] = "laddertick_rectangle"; host["Element300"] = "laddertick_element_300"; host["Label300"] = "laddertick_label"
     type["u8"] = "uint8_t"; type["i32"] = "int32_t"; type["u32"] = "uint32_t"; type["usize"] = "size_t"; type["f64"] = "double"
   } else {
     host["FlatAnswer"] = "Answer"; host["Element"] = "Element"; host["WalkState"] = "Walk"; host["Written"] = "Written"
     host["Checked"] = "Checked"; host["LabelEntry"] = "Entry"
-    host["Joined"] = "Joined"; host["Rectangle"] = "Rectangle"
+    host["Joined"] = "Joined"; host["Rectangle"] = "Rectangle"; host["Element300"] = "Element300"; host["Label300"] = "Label300"
     for (t in size) type[t] = t
   }
   for (s in host) type[s] = host[s]
@@ -18,7 +18,9 @@ BEGIN {
 
 # ---- the declarations
 /^#\[repr\(C\)\]$/ { marked = 1; next }
-marked && /^pub struct [A-Za-z]+ \{$/ { struct = $3; structs[struct] = ++declared; order[declared] = struct; marked = 0; next }
+# a number in a type of its own, as which only Rust has it
+marked && /^pub struct [A-Za-z0-9]+\(pub i32\);$/ { t = $3; sub(/\(.*/, "", t); size[t] = size["i32"]; type[t] = to == "c" ? type["i32"] : t; marked = 0; next }
+marked && /^pub struct [A-Za-z0-9]+ \{$/ { struct = $3; structs[struct] = ++declared; order[declared] = struct; marked = 0; next }
 marked { stop("no struct behind #[repr(C)]") }
 struct && /^}$/ { struct = ""; next }
 struct && /^ *\/\// { next }

@@ -142,6 +142,17 @@ define %written @laddertick_nearest(ptr %input, i64 %len, ptr %entries, i64 %ent
   ret %written %r
 }
 
+define void @laddertick_to_300(ptr noalias sret([24 x i8]) align 8 %to, ptr %input, i64 %len, ptr %entries, i64 %entries_len, i64 %number, ptr %list, i64 %list_len) {
+  %s = alloca %slice, align 8
+  %e = alloca %slice, align 8
+  %l = alloca %slice, align 8
+  call void @slice_of(ptr %s, ptr %input, i64 %len)
+  call void @slice_of(ptr %e, ptr %entries, i64 %entries_len)
+  call void @slice_of(ptr %l, ptr %list, i64 %list_len)
+  call void @inner_to_300(ptr %to, ptr %s, ptr %e, i64 %number, ptr %l)
+  ret void
+}
+
 define internal void @slice_of(ptr %s, ptr %bytes, i64 %len) alwaysinline {
   store ptr %bytes, ptr %s, align 8
   %l = getelementptr i8, ptr %s, i64 8

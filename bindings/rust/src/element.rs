@@ -1,20 +1,21 @@
 use crate::raw;
+pub use crate::raw::Dots300;
 use crate::write::write;
 
-/// What a command draws.
+/// What a command draws. Its lengths `L` are dots as the file has them, or [`Dots300`].
 #[derive(Clone, Debug, PartialEq)]
 #[non_exhaustive]
-pub struct Element<'a> {
+pub struct Element<'a, L = i32> {
     /// The position in dots, the reference point added.
-    pub x: i32,
-    pub y: i32,
-    pub kind: Kind,
+    pub x: L,
+    pub y: L,
+    pub kind: Kind<L>,
     /// The bytes of its data as they stand in the file: a graphic's dots, row by row (the Rust that this is a port of draws a 1 bit black); all other
     /// data is text. Empty where a kind has none.
     pub data: &'a [u8],
 }
 
-impl Element<'_> {
+impl<L> Element<'_, L> {
     /// The data as text: UTF-8 as it stands, U+FFFD for what is none. A graphic has none.
     pub fn text(&self) -> Option<String> {
         if self.data.is_empty() || matches!(self.kind, Kind::Graphic { .. }) {
@@ -27,23 +28,23 @@ impl Element<'_> {
 
 /// The kind of an element and its numbers. Sizes are in dots, rotations in quarter turns, 0 to 3.
 #[derive(Clone, Debug, PartialEq)]
-pub enum Kind {
+pub enum Kind<L = i32> {
     /// The height and the width are those that the scale gives.
     Text { rotation: u8, reverse: bool, scale: Scale, height: f64, width: f64 },
     /// A box, or a line that is one.
-    Box { width: i32, height: i32, thickness: i32, colour: Colour },
+    Box { width: L, height: L, thickness: L, colour: Colour },
     /// It falls from top left to bottom right (a point does too), or rises from bottom left to top right, or is horizontal or vertical.
-    Diagonal { width: i32, height: i32, thickness: i32, falls: bool },
+    Diagonal { width: L, height: L, thickness: L, falls: bool },
     /// 0 bytes a row where there is no data.
     Graphic { row_bytes: i32 },
-    Code128 { bars: Bars, mode: BarMode },
-    Ean13(Bars),
-    Ean8(Bars),
-    UpcA(Bars),
-    UpcE(Bars),
+    Code128 { bars: Bars<L>, mode: BarMode },
+    Ean13(Bars<L>),
+    Ean8(Bars<L>),
+    UpcA(Bars<L>),
+    UpcE(Bars<L>),
     /// The wide bar is the file's number, 0 and below too; the ratio is that of it to the narrow one, at least 2.
-    Interleaved2of5 { bars: Bars, check: bool, wide: i32, ratio: f64 },
-    Code39 { bars: Bars, check: bool, wide: i32, ratio: f64 },
+    Interleaved2of5 { bars: Bars<L>, check: bool, wide: i32, ratio: f64 },
+    Code39 { bars: Bars<L>, check: bool, wide: i32, ratio: f64 },
     /// Security -1, columns 0 and rows 0: the encoder chooses.
     Pdf417 { rotation: u8, row_height: i32, security: i32, columns: i32, rows: i32, truncate: bool, module_width: i32 },
     Aztec { magnification: i32, size: i32 },
@@ -72,11 +73,11 @@ pub struct Scale {
 
 /// What all bar codes with bars have.
 #[derive(Clone, Copy, Debug, PartialEq, Eq)]
-pub struct Bars {
+pub struct Bars<L = i32> {
     pub rotation: u8,
-    /// The width of a narrow bar.
+    /// The width of a narrow bar, in dots of whatever printer.
     pub narrow: i32,
-    pub height: i32,
+    pub height: L,
     /// With its text below.
     pub line: bool,
 }
@@ -98,9 +99,26 @@ pub enum QrLevel {
     L,
 }
 
+/// A length, and how many dots it has.
+pub(crate) trait Length: Copy {
+    fn dots(self) -> i32;
+}
+
+impl Length for i32 {
+    fn dots(self) -> i32 {
+        self
+    }
+}
+
+impl Length for Dots300 {
+    fn dots(self) -> i32 {
+        self.0
+    }
+}
+
 /// The element of an answer of kind 1 to 16.
-pub(crate) fn element(input: &[u8], e: raw::Element) -> Element<'_> {
-    let bars = Bars { rotation: e.rotation, narrow: e.width, height: e.height, line: e.line != 0 };
+pub(crate) fn element<L: Length>(input: &[u8], e: raw::Element<L>) -> Element<'_, L> {
+    let bars = Bars { rotation: e.rotation, narrow: e.width.dots(), height: e.height, line: e.line != 0 };
     let (check, wide, ratio) = (e.check != 0, e.wide, e.ratio);
     let kind = match e.kind {
         1 => {
@@ -118,15 +136,15 @@ pub(crate) fn element(input: &[u8], e: raw::Element) -> Element<'_> {
         10 => Kind::Code39 { bars, check, wide, ratio },
         11 => Kind::Pdf417 {
             rotation: e.rotation,
-            row_height: e.height,
+            row_height: e.height.dots(),
             security: e.security,
             columns: e.columns,
             rows: e.rows,
             truncate: e.truncate != 0,
-            module_width: e.width,
+            module_width: e.width.dots(),
         },
         12 => Kind::Aztec { magnification: e.magnification, size: e.size },
-        13 => Kind::DataMatrix { module: e.height, columns: e.columns, rows: e.rows },
+        13 => Kind::DataMatrix { module: e.height.dots(), columns: e.columns, rows: e.rows },
         14 => Kind::Qr { magnification: e.magnification, level: qr_level(e.level) },
         15 => Kind::Maxicode { mode: e.mode },
         16 => Kind::UpcE(bars),

@@ -1,3 +1,4 @@
+use crate::element::{element, Dots300, Element};
 use crate::raw::{self, Rectangle, Walk, Written};
 use crate::walk::{labels_from, steps_from, Label, Steps};
 use crate::write::write;
@@ -81,6 +82,40 @@ impl<'a> Index<'a> {
         let lines = write(0, |out| raw::open(self.input, &self.entries, number, out))?;
         Ok(String::from_utf8(lines).expect("a listing is hexadecimal digits and LF"))
     }
+
+    /// One label, set for 203 dots an inch, for 300: positions, sizes of boxes and diagonals and heights of bar codes become the nearest whole number to 300/203 of the
+    /// old, and all else stays. A label with a graphic is refused 24, a new length beyond 32 bits 13 or 19, a number past the last label 21.
+    ///
+    /// ```
+    /// use laddertick::{Dots300, Index, Kind};
+    /// let file = b"LO-1,-2,7,5\nB1,2,0,1,2,5,30,B,\"x\"\nP2,3\n";
+    /// let label = Index::of(file)?.to_300(0)?;
+    /// assert_eq!((label.sets, label.copies), (2, 3));
+    /// assert_eq!((label.elements[0].x, label.elements[0].y), (Dots300(-1), Dots300(-3)));
+    /// assert!(matches!(label.elements[0].kind, Kind::Box { width: Dots300(10), height: Dots300(7), .. }));
+    /// assert!(matches!(label.elements[1].kind, Kind::Code128 { bars, .. } if bars.narrow == 2 && bars.height == Dots300(44)));
+    /// # Ok::<(), laddertick::Refused>(())
+    /// ```
+    pub fn to_300(&self, number: usize) -> Result<Label300<'a>, Refused> {
+        let mut list = vec![raw::Element::default(); self.entries.get(number).map_or(0, |entry| entry.count)];
+        let said = raw::to_300(self.input, &self.entries, number, &mut list);
+        if said.number != 0 {
+            return Err(Refused { number: said.number as u8, place: said.place });
+        }
+        list.truncate(said.place);
+        let elements = list.into_iter().map(|e| element(self.input, e)).collect();
+        Ok(Label300 { sets: said.sets, copies: said.copies, elements })
+    }
+}
+
+/// A label at 300 dots an inch.
+#[derive(Clone, Debug, PartialEq)]
+#[non_exhaustive]
+pub struct Label300<'a> {
+    pub sets: i32,
+    pub copies: i32,
+    /// Its elements in file order.
+    pub elements: Vec<Element<'a, Dots300>>,
 }
 
 impl Index<'_> {

@@ -14,7 +14,8 @@
 //! # Ok::<(), laddertick::Refused>(())
 //! ```
 //!
-//! [`Index`] opens single labels of a long file: it is read whole once, and then each label by its own bytes.
+//! [`Index`] opens single labels of a long file: it is read whole once, and then each label by its own bytes. [`Index::to_300`] sets one for a printer of 300 dots an
+//! inch.
 //!
 //! The work is done by a static library in which every function is proved to meet its contract, to return, and to touch only what it was lent
 //! (docs/CONTRACTS.md of the repository). This crate is the thin safe side of it: it allocates, the library does not.
@@ -29,8 +30,8 @@ mod walk;
 mod write;
 
 pub use check::{check, Field, Held, Unfit};
-pub use element::{BarMode, Bars, Colour, Element, Kind, QrLevel, Scale};
-pub use index::{Entry, Index};
+pub use element::{BarMode, Bars, Colour, Dots300, Element, Kind, QrLevel, Scale};
+pub use index::{Entry, Index, Label300};
 pub use join::{join, Part, Unjoined};
 pub use raw::Rectangle;
 pub use refused::Refused;

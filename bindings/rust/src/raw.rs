@@ -11,10 +11,15 @@ pub struct Walk {
     pub place: usize,
 }
 
-/// What a command draws; a field that its kind does not name is 0.
+/// Dots of 1/300 inch. Lengths of 1/203 inch are plain numbers, and neither passes for the other.
+#[repr(transparent)]
+#[derive(Clone, Copy, Debug, Default, PartialEq, Eq, PartialOrd, Ord)]
+pub struct Dots300(pub i32);
+
+/// What a command draws; a field that its kind does not name is 0. Its lengths are of type `L`.
 #[repr(C)]
 #[derive(Clone, Copy, Debug, Default, PartialEq)]
-pub struct Element {
+pub struct Element<L = i32> {
     pub kind: u8,
     pub rotation: u8,
     pub reverse: u8,
@@ -24,11 +29,11 @@ pub struct Element {
     pub check: u8,
     pub truncate: u8,
     pub level: u8,
-    pub x: i32,
-    pub y: i32,
-    pub width: i32,
-    pub height: i32,
-    pub thickness: i32,
+    pub x: L,
+    pub y: L,
+    pub width: L,
+    pub height: L,
+    pub thickness: L,
     pub row_bytes: i32,
     pub security: i32,
     pub columns: i32,
@@ -46,6 +51,9 @@ pub struct Element {
     pub data_start: usize,
     pub data_len: usize,
 }
+
+/// One at 300 dots an inch.
+pub type Element300 = Element<Dots300>;
 
 /// What a step answers; a field that its kind does not name is 0.
 #[repr(C)]
@@ -109,6 +117,16 @@ pub struct Rectangle {
     pub y2: i32,
 }
 
+/// Number 0: `place` elements are written, with the sets and copies of their label. Else a refusal.
+#[repr(C)]
+#[derive(Clone, Copy, Debug, Default, PartialEq, Eq)]
+pub struct Label300 {
+    pub number: u32,
+    pub place: usize,
+    pub sets: i32,
+    pub copies: i32,
+}
+
 extern "C" {
     fn laddertick_start() -> Walk;
     fn laddertick_step(input: *const u8, input_len: usize, walk: Walk) -> Answer;
@@ -123,6 +141,15 @@ extern "C" {
     fn laddertick_nearest(input: *const u8, input_len: usize, entries: *const Entry, entries_len: usize, number: usize, x: i32, y: i32) -> Written;
     fn laddertick_open(input: *const u8, input_len: usize, entries: *const Entry, entries_len: usize, number: usize, out: *mut u8, out_len: usize) -> Written;
     fn laddertick_join(first: *const u8, first_len: usize, second: *const u8, second_len: usize, out: *mut u8, out_len: usize) -> Joined;
+    fn laddertick_to_300(
+        input: *const u8,
+        input_len: usize,
+        entries: *const Entry,
+        entries_len: usize,
+        number: usize,
+        list: *mut Element300,
+        list_len: usize,
+    ) -> Label300;
 }
 
 // Safe, all of them: the pointers and lengths are those of slices, which nobody writes meanwhile and which, one of them being `&mut`, do not overlap. An empty
@@ -178,4 +205,8 @@ pub fn touching(input: &[u8], entries: &[Entry], number: usize, r: Rectangle, li
 
 pub fn nearest(input: &[u8], entries: &[Entry], number: usize, x: i32, y: i32) -> Written {
     unsafe { laddertick_nearest(input.as_ptr(), input.len(), entries.as_ptr(), entries.len(), number, x, y) }
+}
+
+pub fn to_300(input: &[u8], entries: &[Entry], number: usize, list: &mut [Element300]) -> Label300 {
+    unsafe { laddertick_to_300(input.as_ptr(), input.len(), entries.as_ptr(), entries.len(), number, list.as_mut_ptr(), list.len()) }
 }

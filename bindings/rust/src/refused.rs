@@ -6,7 +6,7 @@ const MESSAGES: &str = include_str!("../../../include/laddertick_messages.h");
 /// A refusal: its number and its place.
 #[derive(Clone, Copy, Debug, PartialEq, Eq)]
 pub struct Refused {
-    /// 1 to 9, 13 and 19, and by the well-site profile alone 17 and 18: the author of the label; 10 to 12: the sender of a graphic; 14 to 16, 20 and 21 and 25: the caller.
+    /// 1 to 9, 13 and 19, by the well-site profile alone 17 and 18, and to convert a label alone 24: the author of the label; 10 to 12: the sender of a graphic; 14 to 16, 20 to 22 and 25: the caller.
     pub number: u8,
     /// The first byte of the refused line, its blanks included, counted from 0; for 15 the length that is needed, for 20 how many labels there are, for 21 the number that
     /// no label has, for 25 the joined length.
@@ -19,7 +19,7 @@ impl Refused {
 
     /// The place is that of a line.
     fn is_of_a_line(&self) -> bool {
-        matches!(self.number, 1..=13 | 17..=19)
+        matches!(self.number, 1..=13 | 17..=19 | 24)
     }
 
     /// What the number means, in the words that `./laddertick` prints.

@@ -1,7 +1,7 @@
 //! Answers that the scope document gives, through the safe crate.
 
 use laddertick::{
-    check, labels, list, normalise, steps, strict_list, BarMode, Bars, Colour, Element, Field, Held, Index, Kind, Label, QrLevel, Refused, Scale, Step, Unfit, Unprinted, LONGEST,
+    check, labels, list, normalise, steps, strict_list, BarMode, Bars, Colour, Dots300, Element, Field, Held, Index, Kind, Label, QrLevel, Refused, Scale, Step, Unfit, Unprinted, LONGEST,
 };
 
 /// The one element of a file with one label, and nothing behind it.
@@ -229,4 +229,35 @@ fn many_labels_and_none() {
     assert!(Index::of(b"LO1,1,1,1\n").unwrap().is_empty());
     assert_eq!(Index::of(b"LO1,1,1,1\nP\nX1\n").unwrap_err(), Refused { number: 6, place: 12 });
     assert_eq!(Index::of(&vec![b'\n'; LONGEST + 1]).unwrap_err(), Refused { number: 14, place: 0 });
+}
+
+/// The numbers are those of docs/SCOPE.md ("From 203 to 300 dots").
+#[test]
+fn from_203_to_300_dots() {
+    let file = b"LO-1,-2,7,5\nN\nR100,200\nA1,2,3,4,5,6,R,\"seven77\"\nLS1,2,7,31,42\nB1,2,3,2C,4,10,6,N,\"hello\"\nP5,6\nN\nLO1453130601,-1453130602,1,1\nP\n";
+    let index = Index::of(file).unwrap();
+    let label = index.to_300(0).unwrap();
+    assert_eq!((label.sets, label.copies, label.elements.len()), (5, 6, 3));
+    assert!(label.elements.iter().all(|e| (e.x, e.y) == (Dots300(149), Dots300(299))));
+    let scale = Scale { font: 4, horizontal: 5, vertical: 6 };
+    assert_eq!(label.elements[0].kind, Kind::Text { rotation: 3, reverse: true, scale, height: 144.0, width: 70.0 });
+    assert_eq!(label.elements[0].text().as_deref(), Some("seven77"));
+    assert_eq!(label.elements[1].kind, Kind::Diagonal { width: Dots300(44), height: Dots300(59), thickness: Dots300(10), falls: true });
+    let bars = Bars { rotation: 3, narrow: 4, height: Dots300(9), line: false };
+    assert_eq!(label.elements[2].kind, Kind::Interleaved2of5 { bars, check: true, wide: 10, ratio: 2.5 });
+    let ends = index.to_300(1).unwrap();
+    assert_eq!((ends.elements[0].x, ends.elements[0].y), (Dots300(i32::MAX), Dots300(i32::MIN)));
+    let cases: [(&[u8], u8, usize); 5] = [
+        (b"LO1453130602,0,1453130602,1\nP", 13, 0),
+        (b"LO0,0,1,1\n LO0,0,1,1453130602\nLO1453130602,0,1,1\nP", 19, 10),
+        (b"LO1453130602,0,1,1\n GW0,0,1,1,zP", 24, 19),
+        (b"LO1,1,1,1\nP", 21, 1),
+        (b"", 21, 1),
+    ];
+    for (file, number, place) in cases {
+        let index = Index::of(file).unwrap();
+        assert_eq!(index.to_300((number == 21) as usize), Err(Refused { number, place }), "{}", file.escape_ascii());
+    }
+    let said = Index::of(b"GW0,0,1,1,zP").unwrap().to_300(0).unwrap_err().to_string();
+    assert_eq!(said, "refused (24): a label with a graphic, which cannot be set for another resolution, at offset 0 (from 0)");
 }

@@ -268,7 +268,7 @@ fn upce(e: BarcodeUcpeWithData) -> Element
 }
 
 // An element of any kind.
-pub(crate) fn flat_element(e: LabelElement) -> Element
+pub fn flat_element(e: LabelElement) -> Element
     ensures { λ r. ⌜ r ≡ flatElement e ⌝ }
 {
     match e {

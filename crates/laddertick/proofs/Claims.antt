@@ -11,7 +11,7 @@ use Rattle.text.proofs.BlankWhiteLaws.{code-points-trim}
 use Rattle.texts.proofs.FontLaws.{width-exact}
 use Rattle.elements.specs.declared.LabelElement.{LabelElement}
 use Rattle.elements.specs.declared.refusal.Refusal.{Refusal}
-use Rattle.elements.specs.declared.refusal.Refusal.the-variants.{TextFields, BarcodeFields, Barcode2dFields, LineFields, DiagonalFields, BoxFields, BarcodeType, Barcode2dType, QrData, GraphicFields, GraphicNegative, GraphicTruncated, OutOfRange, InputTooLong, OutputTooShort, StateOutside, NoValue, OutsideProfile, SizeOutside, TooManyLabels, NoSuchLabel, RectangleTurned, JoinedTooLong}
+use Rattle.elements.specs.declared.refusal.Refusal.the-variants.{TextFields, BarcodeFields, Barcode2dFields, LineFields, DiagonalFields, BoxFields, BarcodeType, Barcode2dType, QrData, GraphicFields, GraphicNegative, GraphicTruncated, OutOfRange, InputTooLong, OutputTooShort, StateOutside, NoValue, OutsideProfile, SizeOutside, TooManyLabels, NoSuchLabel, RectangleTurned, GraphicInLabel, JoinedTooLong}
 use Rattle.elements.specs.Refusals.{numberOf}
 use Rattle.elements.specs.Walk.{fresh}
 use Rattle.element_frames.specs.Frame.{be32, head, frameOf}
@@ -99,6 +99,10 @@ use Rattle.laddertick.proofs.Indexed as tabled
 use Rattle.laddertick.proofs.Joined.{joined}
 use Rattle.laddertick.proofs.Changed.{changed}
 use Rattle.laddertick.proofs.Lying as laid
+use Rattle.dots.proofs.LengthLaws.{to300-near, to300-nearest, nearest-to300, to300-order, to300-range}
+use Rattle.dots.specs.Length.{Nearest}
+use Rattle.laddertick.proofs.ResolutionLaws.{resolution, to-300-keeps, long-to-300}
+use Rattle.laddertick.proofs.Converted as converted
 
 -- a frame looks only at the bytes of its own unit, wherever they stand
 local : Local epl (List ℕ) frameOf
@@ -362,6 +366,7 @@ numbered-of SizeOutside = (omega arith, omega arith)
 numbered-of TooManyLabels = (omega arith, omega arith)
 numbered-of NoSuchLabel = (omega arith, omega arith)
 numbered-of RectangleTurned = (omega arith, omega arith)
+numbered-of GraphicInLabel = (omega arith, omega arith)
 numbered-of JoinedTooLong = (omega arith, omega arith)
 
 -- ---- demand 2
@@ -389,6 +394,8 @@ claims library = record {
     long-normalise = long-normalise library;
     long-check = long-check library;
     long-strict-list = long-strict-list library;
+    to-300-keeps = to-300-keeps library;
+    long-to-300 = long-to-300 library;
     long-index = long-index library;
     long-open = long-open library;
     outside = outside library;
@@ -424,6 +431,7 @@ claims library = record {
     joined = joined;
     changed = changed;
     laid = laid.lying;
+    converted = converted.converted;
   };
   sized = calls.sized library;
   demand3 = demand-of library;
@@ -436,6 +444,13 @@ claims library = record {
   lying = lying-laws.lying library;
   lying-own = lying-own-of library;
   shares = lying-laws.shares;
+  dots = record {
+    nearest = λ n z. (nearest-to300 n z, λ e. subst (Nearest n) (sym e) (to300-nearest n));
+    near = to300-near;
+    order = to300-order;
+    range = to300-range;
+  };
+  resolution = resolution library;
   block-bytes = block-bytes;
   line-blocks = line-blocks;
   flat = record { frame = flat-frame; next = flat-next; kind = flat-kind; clear = λ st. refl; end = λ st. refl };

@@ -6,6 +6,7 @@ pub mod Indexed
 pub mod Joined
 pub mod Changed
 pub mod Lying
+pub mod Converted
 -- `LE` beside `LO`
 pub mod ColouredLaws
 -- data lies inside; sizes and ratios are those of an element's fields
@@ -22,6 +23,8 @@ pub mod JoinedLaws
 -- what lies where
 pub mod LyingLaws
 pub mod LyingOwnLaws
+-- from 203 to 300 dots
+pub mod ResolutionLaws
 -- the code
 pub mod Proved
 -- the claims

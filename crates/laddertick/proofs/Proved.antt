@@ -12,6 +12,7 @@ use Rattle.joining.proofs.join.join.Met as join
 use Rattle.finds.proofs.find.inside.Met as inside
 use Rattle.finds.proofs.find.touching.Met as touching
 use Rattle.finds.proofs.nearest.nearest.Met as nearest
+use Rattle.converting.proofs.label.to_300.Met as to-300
 use Rattle.laddertick.specs.Proved.{Proved}
 
 pub proved : Proved
@@ -27,6 +28,7 @@ proved = record {
   inside = inside.met;
   touching = touching.met;
   nearest = nearest.met;
+  to-300 = to-300.met;
   start-owes = λ κs a r z p. p;
   step-owes = λ κs a r z p. p;
   list-owes = λ κs a r z p. p;
@@ -40,4 +42,5 @@ proved = record {
   inside-says = λ M 𝓤 H A mem run κs a g. (refl, λ r z. refl);
   touching-says = λ M 𝓤 H A mem run κs a g. (refl, λ r z. refl);
   nearest-says = λ M 𝓤 H A mem run κs a g. (refl, λ r z. refl);
+  to-300-says = λ M 𝓤 H A mem run κs a g. (refl, λ r z. refl);
 }

@@ -2,16 +2,18 @@
 -- to (`Proved`).
 -- Read first; each name leads to its definition. Quoted words are those of the three demands, or of 01.
 use mathlib.Core.Path.{_≡_}
-use mathlib.Core.Bool.{true, false}
+use mathlib.Core.Bool.{true, false, _&&_}
 use mathlib.Core.List.{List, [], _∷_, _++_}
 use mathlib.Core.Logic.{_↔_, _⊎_}
 use mathlib.Core.Option.{some}
 use Prim.Native.Nat.{ℕ, _+_, _*_, _/_, _^_, _≤_, _<_}
-use lib.IntN.{ℤ, pos}
+use lib.IntN.{ℤ, pos, negsuc}
+use lib.Signed.{leZ}
 use lib.Ieee.{binary64, ofInt}
 use lib.ListN.{length, take, getElem?}
 use Rattle.text.specs.Blank.{dropBoth, isWhiteSpace, trim}
 use Rattle.text.specs.Utf8.{codePoints}
+use Rattle.numbers.specs.Int.{in32}
 use Rattle.numbers.specs.Number.{fieldOr}
 use Rattle.texts.specs.Font.{widthOf}
 use Rattle.elements.specs.declared.filled.Filled.the-variants as filled
@@ -71,6 +73,14 @@ use Rattle.spots.specs.Element.{insideOf, touchingOf, distances, FirstLeast}
 use Rattle.finds.specs.declared.found.Found.the-variants as found
 use Rattle.finds.specs.Found as spots
 use Rattle.finds.specs.Found.{itself, openingOf, spotOf}
+use Rattle.whole.specs.Index as theory
+use Rattle.opening.specs.Opened as opening
+use Rattle.dots.specs.declared.element.Element300.{Element300}
+use Rattle.dots.specs.Length.{Near, Nearest, to300}
+use Rattle.converting.specs.Conversion.{Drawn, drawnOf}
+use Rattle.converting.specs.Promise.{Denied, Resolved}
+use Rattle.laddertick.specs.Framed.{Framed}
+use Rattle.laddertick.specs.Converted as converted
 use Rattle.laddertick.specs.Contracts.{Library, Filling, Denies, Gives, DeniesList, GivesEntries, JoinDenies, JoinGives}
 use Rattle.laddertick.specs.Contracts.{DeniesNumbers, GivesNumbers}
 use Rattle.laddertick.specs.Proved.{Proved}
@@ -129,6 +139,10 @@ pub record Demand1 (library : Library) : Type 0 where
   pub long-check : (s : List ℕ) → longest < length s
       → library .check s ≡ record { number = 14; field = 0; held = 0; place = 0 }
   pub long-strict-list : (s l : List ℕ) → longest < length s → Denies 14 0 l (library .strict-list s l)
+  pub to-300-keeps : (s : List ℕ) (es : List LabelEntry) (i : ℕ) (l : List Element300)
+      → (library .to-300 s es i l .answer .number ≡ 0 → ⊥) → library .to-300 s es i l .list ≡ l
+  pub long-to-300 : (s : List ℕ) (es : List LabelEntry) (i : ℕ) (l : List Element300) → longest < length s
+      → Denied 14 0 l (library .to-300 s es i l .list) (library .to-300 s es i l .answer)
   pub long-index : (s : List ℕ) (l : List LabelEntry) → longest < length s → DeniesList 14 0 l (library .index s l)
   pub long-open : (s : List ℕ) (es : List LabelEntry) (i : ℕ) (l : List ℕ) → longest < length s
       → Denies 14 0 l (library .open-label s es i l)
@@ -207,6 +221,8 @@ pub record Demand2 : Type 0 where
   -- and files in which one line is changed, listed before and after
   pub changed : Holds changed.table
   pub laid : laid.Holds laid.table
+  -- and labels converted to 300 dots
+  pub converted : Holds converted.table
 
 -- the normalised text of a string that divides and has these labels and n elements pending at its end
 pub record Normalising (library : Library) (s : List ℕ) (ls : List FramedLabel) (n : ℕ) : Type 0 where
@@ -386,6 +402,27 @@ pub record Lying (library : Library) (s : List ℕ) (es : List LabelEntry) (i : 
   pub touching-keeps : (b : Rectangle) (l : List ℕ) (k : Refusal) (p : ℕ)
       → library .touching s es i b l .answer ≡ found.Refused k p → library .touching s es i b l .list ≡ l
 
+-- 01, "From 203 to 300 dots": one length
+pub record Dots : Type 0 where
+  -- "the nearest whole number to 300/203 of the old", and no other
+  pub nearest : (n z : ℤ) → Nearest n z ↔ (z ≡ to300 n)
+  -- "203 times the new value differs from 300 times the old by at most 101, also below zero"
+  pub near : (n : ℤ) → Near n (to300 n)
+  -- "positions keep their order along each axis"
+  pub order : (a b : ℤ) → leZ a b ≡ true → leZ (to300 a) (to300 b) ≡ true
+  -- the old lengths whose new ones are within 32 bits
+  pub range : (n : ℤ) → in32 (to300 n) ≡ (leZ (negsuc 1453130601) n && leZ n (pos 1453130601))
+
+-- and one label, opened from the index: that of the entry with the number i, whoever made the list
+pub record Resolution (library : Library) (s : List ℕ) (es : List LabelEntry) (i : ℕ) : Type 0 where
+  -- "all checks of opening": what `open_label` refuses is refused alike
+  pub unopened : (k p : ℕ) → opening.openingOf s es i ≡ theory.denies k p → (l : List Element300)
+      → Denied k p l (library .to-300 s es i l .list) (library .to-300 s es i l .answer)
+  -- the label that it opens, its elements ds in file order, each with the first byte of its line or block: refused, or
+  -- converted
+  pub opened : (f : FramedLabel) → opening.openingOf s es i ≡ theory.opens f → (ds : List Drawn) × Framed s es i f ds
+      × ((l : List Element300) → Resolved (f .says) ds l (library .to-300 s es i l .list) (library .to-300 s es i l .answer))
+
 -- the flat answers of the static library, a : what `step` answers
 pub record Flat : Type 0 where
   -- an answer of `laddertick_step` rebuilt to 01's frame from its fields alone: an element's, a print's, a refusal's,
@@ -470,6 +507,9 @@ pub record Claims (library : Library) : Type 0 where
       → Answers library s (index s ls n short d .entries) i (f .frames)
   -- "shares a point with it", literally: a point of both, over the integers, so that no far edge wraps
   pub shares : (x y w h : ℤ) (b : Rectangle) → isTurned b ≡ false → (isTouching x y w h b ≡ true) ↔ Shared x y w h b
+  -- from 203 to 300 dots
+  pub dots : Dots
+  pub resolution : (s : List ℕ) (es : List LabelEntry) (i : ℕ) → Resolution library s es i
   -- a graphic block is its bytes, blanks, `GW`, four fields and payload; a line has none
   pub block-bytes : (bs p : List ℕ) (h : Header) → blocks (block bs h p)
       ≡ (bs ++ spelt "GW" (h .x ++ spelt "," (h .y ++ spelt "," (h .width ++ spelt "," (h .lines ++ spelt "," p))))) ∷ []

@@ -27,6 +27,9 @@ use Rattle.joining.specs.Join.{Joins}
 use Rattle.spots.specs.declared.place.Rectangle.{Rectangle}
 use Rattle.finds.specs.declared.found.Found.{Found}
 use Rattle.finds.specs.Found.{insideDue, touchingDue, nearestDue, givenFound, spotOf}
+use Rattle.dots.specs.declared.element.Element300.{Element300}
+use Rattle.converting.specs.declared.label.Label300.{Label300}
+use Rattle.converting.specs.Conversion.{conversionOf, Converts}
 
 -- `step` answers r to the input s and the state w
 abbrev pub Stepped : List ℕ → WalkState → Answer → Type 0
@@ -77,6 +80,10 @@ Touching s es i b l n r = Fills n l (touchingDue s es i b) (givenFound r)
 abbrev pub Nearest : List ℕ → List LabelEntry → ℕ → LabelPosition → Found → Type 0
 Nearest s es i q r = spotOf r ≡ nearestDue s es i q
 
+-- `to_300` answers r to the input s, the entries es, the number i and the list l, which becomes n
+abbrev pub Converted : List ℕ → List LabelEntry → ℕ → List Element300 → List Element300 → Label300 → Type 0
+Converted s es i l n r = Converts n l (conversionOf s es i (length l)) r
+
 -- what a call that fills a lent buffer answers, and the buffer afterwards
 pub record Filling : Type 0 where
   pub answer : Filled
@@ -92,6 +99,11 @@ pub record Finding : Type 0 where
   pub answer : Found
   pub list : List ℕ
 
+-- what a call that fills a lent list of elements answers, and the list afterwards
+pub record Converting : Type 0 where
+  pub answer : Label300
+  pub list : List Element300
+
 -- functions of the input and the state, or of the input and the buffer as it came, that meet these contracts
 pub record Library : Type 0 where
   pub step : List ℕ → WalkState → Answer
@@ -104,6 +116,7 @@ pub record Library : Type 0 where
   pub inside : List ℕ → List LabelEntry → ℕ → Rectangle → List ℕ → Finding
   pub touching : List ℕ → List LabelEntry → ℕ → Rectangle → List ℕ → Finding
   pub nearest : List ℕ → List LabelEntry → ℕ → LabelPosition → Found
+  pub to-300 : List ℕ → List LabelEntry → ℕ → List Element300 → Converting
   pub steps : (s : List ℕ) (w : WalkState) → Stepped s w (step s w)
   pub lists : (s l : List ℕ) → Listed s l (list s l .buffer) (list s l .answer)
   pub normalises : (s l : List ℕ) → Normalised s l (normalise s l .buffer) (normalise s l .answer)
@@ -120,6 +133,8 @@ pub record Library : Type 0 where
   pub touches : (s : List ℕ) (es : List LabelEntry) (i : ℕ) (b : Rectangle) (l : List ℕ)
       → Touching s es i b l (touching s es i b l .list) (touching s es i b l .answer)
   pub nears : (s : List ℕ) (es : List LabelEntry) (i : ℕ) (q : LabelPosition) → Nearest s es i q (nearest s es i q)
+  pub converts : (s : List ℕ) (es : List LabelEntry) (i : ℕ) (l : List Element300)
+      → Converted s es i l (to-300 s es i l .list) (to-300 s es i l .answer)
 
 -- ---- what a call did, from its answer and its buffer alone
 

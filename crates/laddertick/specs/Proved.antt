@@ -47,8 +47,11 @@ use Rattle.finds.proofs.find.touching.Statement as touching
 use Rattle.finds.proofs.find.touching as touching-fn
 use Rattle.finds.proofs.nearest.nearest.Statement as nearest
 use Rattle.finds.proofs.nearest.nearest as nearest-fn
+use Rattle.converting.proofs.label.to_300.Statement as to-300
+use Rattle.converting.proofs.label.to_300 as to-300-fn
 use Rattle.laddertick.specs.Contracts.{Stepped, Listed, Normalised, Judged, StrictlyListed, Entered, Opened, JoinedBy}
 use Rattle.laddertick.specs.Contracts.{Inside, Touching, Nearest}
+use Rattle.laddertick.specs.Contracts.{Converted}
 
 -- what is said of the arguments, the result and the arguments at exit by the first is said by the second
 abbrev pub Owes : (n : ℕ) (ps : List (PK n)) (r : RK n) → Out n ps r → Out n ps r → Type 0
@@ -79,6 +82,7 @@ pub record Proved : Type 2 where
   pub inside : {M : Type 1} → inside.statement M
   pub touching : {M : Type 1} → touching.statement M
   pub nearest : {M : Type 1} → nearest.statement M
+  pub to-300 : {M : Type 1} → to-300.statement M
   -- a are the arguments, r the result, z the arguments at exit: the input, then the state or the buffer
   pub start-owes : Owes 0 start-kinds.ps start-kinds.r start-reads.Post (λ κs a r z. r ≡ fresh)
   pub step-owes : Owes 1 step-kinds.ps step-kinds.r step-reads.Post (λ κs a r z. Stepped (a .0 .now) (a .1 .0) r)
@@ -106,3 +110,5 @@ pub record Proved : Type 2 where
       (z .1 .1 .1 .1 .0 .now) r)
   pub nearest-says : Says nearest-fn.ended (λ M. nearest-fn.clauses {M = M})
       (λ κs a r z. Nearest (a .0 .now) (a .1 .0 .now) (a .1 .1 .0) (a .1 .1 .1 .0) r)
+  pub to-300-says : Says to-300-fn.ended (λ M. to-300-fn.clauses {M = M})
+      (λ κs a r z. Converted (a .0 .now) (a .1 .0 .now) (a .1 .1 .0) (a .1 .1 .1 .0 .now) (z .1 .1 .1 .0 .now) r)

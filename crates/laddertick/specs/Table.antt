@@ -24,6 +24,7 @@ use Rattle.index.specs.declared.entry.LabelEntry.{LabelEntry}
 use Rattle.index.specs.Plan.{EplFilling, fillingOf}
 use Rattle.opening.specs.Opened as opening
 use Rattle.joining.specs.Join.{fileOf, joinDueOf}
+use Rattle.converting.specs.Conversion.{Conversion, conversionOf}
 
 abbrev pub EplState : Type 0
 EplState = State LabelPosition
@@ -50,7 +51,8 @@ answers s = answersOf (suc (left s fresh)) s fresh
 
 -- an input with all that is answered to it, with its normalised text, with its listing, with the profile's verdict on
 -- it, with what is due to `strict_list`; with its index, for a list of so many entries; with what opening one of these
--- entries by its number is due, or with its listing before and after one line is changed
+-- entries by its number is due, or with its label at 300 dots for a list of so many elements; with its listing before and
+-- after one line is changed
 pub data Case : Type 0 where
   says : List ℕ → List EplAnswer → Case
   becomes : List ℕ → List ℕ → Case
@@ -63,6 +65,7 @@ pub data Case : Type 0 where
   joins : List ℕ → List ℕ → ℕ → Due → Case
   -- a file in three parts with its listing, and the listing where the middle part is another
   changes : List ℕ → List ℕ → List ℕ → List ℕ → List ℕ → List ℕ → Case
+  converts : List ℕ → List LabelEntry → ℕ → ℕ → Conversion → Case
 
 -- every row of a table holds
 abbrev pub Holds : List Case → Type 0
@@ -77,6 +80,7 @@ Holds (opens s es i d ∷ cs) = (opening.dueOf s es i ≡ d) × Holds cs
 Holds (joins s t f d ∷ cs) = ((fileOf s t ≡ f) × (joinDueOf s t ≡ d)) × Holds cs
 Holds (changes front old new back was is ∷ cs) =
     (dueOf (front ++ (old ++ back)) ≡ text was) × (dueOf (front ++ (new ++ back)) ≡ text is) × Holds cs
+Holds (converts s es i m c ∷ cs) = (conversionOf s es i m ≡ c) × Holds cs
 
 -- How the rows are written, in characters:
 abbrev pub case : String → List EplAnswer → Case

@@ -67,6 +67,10 @@ use Rattle.laddertick_c.proofs.laddertick_touching.Met as touching-met
 use Rattle.laddertick_c.proofs.laddertick_nearest as nearest-fn
 use Rattle.laddertick_c.proofs.laddertick_nearest.Statement as nearest
 use Rattle.laddertick_c.proofs.laddertick_nearest.Met as nearest-met
+use Rattle.converting.specs.Conversion.{conversionOf, Converts}
+use Rattle.laddertick_c.proofs.laddertick_to_300 as to-300-fn
+use Rattle.laddertick_c.proofs.laddertick_to_300.Statement as to-300
+use Rattle.laddertick_c.proofs.laddertick_to_300.Met as to-300-met
 
 pub record Proved : Type 2 where
   pub start : {M : Type 1} → start.statement M
@@ -81,6 +85,7 @@ pub record Proved : Type 2 where
   pub inside : {M : Type 1} → inside.statement M
   pub touching : {M : Type 1} → touching.statement M
   pub nearest : {M : Type 1} → nearest.statement M
+  pub to-300 : {M : Type 1} → to-300.statement M
   pub start-owes : Owes 0 start-kinds.ps start-kinds.r start-reads.Post (λ κs a r z. r ≡ fresh)
   pub step-owes : Owes 1 step-kinds.ps step-kinds.r step-reads.Post (λ κs a r z. r ≡ flatOf (theory.step epl (a .0 .now) (stateOf (a .1 .0))))
   pub decode-owes : Owes 2 decode-kinds.ps decode-kinds.r decode-reads.Post
@@ -97,6 +102,7 @@ pub record Proved : Type 2 where
   pub inside-says : Says inside-fn.ended (λ M. inside-fn.clauses {M = M}) (λ κs a r z. Fills (z .1 .1 .1 .1 .0 .now) (a .1 .1 .1 .1 .0 .now) (insideDue (a .0 .now) (a .1 .0 .now) (a .1 .1 .0) (a .1 .1 .1 .0)) (givenFlat r))
   pub touching-says : Says touching-fn.ended (λ M. touching-fn.clauses {M = M}) (λ κs a r z. Fills (z .1 .1 .1 .1 .0 .now) (a .1 .1 .1 .1 .0 .now) (touchingDue (a .0 .now) (a .1 .0 .now) (a .1 .1 .0) (a .1 .1 .1 .0)) (givenFlat r))
   pub nearest-says : Says nearest-fn.ended (λ M. nearest-fn.clauses {M = M}) (λ κs a r z. spotFlat r ≡ nearestDue (a .0 .now) (a .1 .0 .now) (a .1 .1 .0) (record { x = a .1 .1 .1 .0; y = a .1 .1 .1 .1 .0 }))
+  pub to-300-says : Says to-300-fn.ended (λ M. to-300-fn.clauses {M = M}) (λ κs a r z. Converts (z .1 .1 .1 .0 .now) (a .1 .1 .1 .0 .now) (conversionOf (a .0 .now) (a .1 .0 .now) (a .1 .1 .0) (length (a .1 .1 .1 .0 .now))) r)
 
 pub proved : Proved
 proved = record {
@@ -112,6 +118,7 @@ proved = record {
   inside = inside-met.met;
   touching = touching-met.met;
   nearest = nearest-met.met;
+  to-300 = to-300-met.met;
   start-owes = λ κs a r z p. p;
   step-owes = λ κs a r z p. p;
   decode-owes = λ κs a r z p. p;
@@ -126,4 +133,5 @@ proved = record {
   inside-says = λ M 𝓤 H A mem run κs a g. (refl, λ r z. refl);
   touching-says = λ M 𝓤 H A mem run κs a g. (refl, λ r z. refl);
   nearest-says = λ M 𝓤 H A mem run κs a g. (refl, λ r z. refl);
+  to-300-says = λ M 𝓤 H A mem run κs a g. (refl, λ r z. refl);
 }

@@ -12,6 +12,7 @@ ghost use Rattle.frames.specs.Listing as listing;
 ghost use Rattle.index.specs.Plan.{Indexes, fillingOf};
 ghost use Rattle.joining.specs.Join.{Joins};
 ghost use Rattle.opening.specs.Opened as opening;
+ghost use Rattle.converting.specs.Conversion.{conversionOf, Converts};
 ghost use Rattle.strict.specs.Verdict.{checkedOf};
 ghost use Rattle.strict.specs.Listing.{strictDueOf};
 ghost use Rattle.elements.specs.Walk.{fresh};
@@ -26,15 +27,17 @@ use flat::written::of_filled;
 use flat::written::of_found;
 use flat::written::of_indexed;
 use laddertick::Checked;
+use laddertick::Element300;
 use laddertick::Joined;
+use laddertick::Label300;
 use laddertick::LabelEntry;
 use laddertick::LabelPosition;
 use laddertick::Rectangle;
 use laddertick::WalkState;
 use laddertick::check;
 use laddertick::index;
-use laddertick::join;
 use laddertick::inside;
+use laddertick::join;
 use laddertick::list;
 use laddertick::nearest;
 use laddertick::normalise;
@@ -42,6 +45,7 @@ use laddertick::open_label;
 use laddertick::start;
 use laddertick::step;
 use laddertick::strict_list;
+use laddertick::to_300;
 use laddertick::touching;
 
 // The state before the first byte.
@@ -181,4 +185,18 @@ pub extern "C" fn laddertick_nearest(
 {
     let q = point(x, y);
     of_found(nearest(input, entries, number, q))
+}
+
+// The elements of the label with this number at 300 dots an inch, from the start of the list; or a refusal that leaves the
+// list as it came.
+#[no_mangle]
+pub extern "C" fn laddertick_to_300(
+    input: &[u8],
+    entries: &[LabelEntry],
+    number: usize,
+    list: &mut [Element300],
+) -> Label300
+    ensures { λ r. ⌜ Converts (now (list .exit)) (now (list .entry)) (conversionOf (now (input .entry)) (now (entries .entry)) number (length (now (list .entry)))) r ⌝ }
+{
+    to_300(input, entries, number, list)
 }

@@ -1,0 +1,40 @@
+-- Every row of the table of labels converted holds (`converted`), by computation. Assumes nothing.
+use mathlib.Core.Path.{refl}
+use mathlib.Core.List.{flatten}
+use lib.Ieee.{toBits, ofBits, ofInt, mul, div, lt}
+use Rattle.text.specs.Fields.{before, after, beforeLast, fields, withoutTrailingCommas}
+use Rattle.text.specs.Utf8.{need, low, high}
+use Rattle.numbers.specs.Number.{numberSpelled}
+use Rattle.parameters.specs.FieldValues.{sizeOr, pointOf, exactly}
+use Rattle.parameters.specs.Position.{placed}
+use Rattle.parameters.specs.Rotation.{rotationOf}
+use Rattle.texts.specs.Font.{cellOf, widthOf, fontOf}
+use Rattle.texts.specs.Text.{textFields, textElement, textReading}
+use Rattle.draws.specs.Draw.{lineFields, lineElement, lineReading, cornersAt, sizedAt, drawnAt, diagonalReading, boxReading}
+use Rattle.barcodes.specs.Barcode.{symbologyOf, barcodeFields, code128, interleaved, code39, ean13, ean8, upcA, upcE, barcodeAt, barcodeReading}
+use Rattle.barcodes.specs.Ratio.{ratioOf}
+use Rattle.barcodes_2d.specs.Barcode2d as two
+use Rattle.barcodes_2d.specs.Barcode2d.{aztecSize, aztecOf, datamatrixOf, modeOf, pdf417ModuleWidth, pdf417RowHeight, pdf417Truncate, pdf417Of, qrOf, levelOf, aztecReading, datamatrixReading, maxicodeReading, pdf417Reading, qrReading, barcode2dReading}
+use Rattle.barcodes_2d.specs.Maxicode.{headerAt, headerPlace, postal, autoMode}
+use Rattle.barcodes_2d.specs.Options.{optionsOf, lastCount, lastNumber, lastClamped}
+use Rattle.graphics.specs.Block.{opensGw, closes, afterHeaderField, headerNumber, fourClosed, payloadOf, gwNumbers, measured, gwSpan}
+use Rattle.spelling.specs.Command.{isReference, isPrint, commandOf}
+use Rattle.spelling.specs.Print.{isCounts, countsOf}
+use Rattle.spelling.specs.Reference.{referenceOf}
+use Rattle.commands.specs.Line.{paramsOf, quotedReading, readLine}
+use Rattle.whole.specs.Division.{unitsOf}
+use Rattle.whole.specs.Labels.{flush}
+use Rattle.whole.specs.Step.{handing, answer, step}
+use Rattle.whole.specs.Trace.{trace}
+use Rattle.grammar.specs.Found.{first}
+use Rattle.grammar.specs.WellFormed.{wellFormed, faultOf}
+use Rattle.element_frames.specs.Frame.{be32, head, extentBytes, barBytes, rowBytes, scaleBytes, fieldBytes, frameOf, labelFrame}
+use Rattle.dots.specs.Length.{to300}
+use Rattle.dots.specs.Element.{element300, outside}
+use Rattle.laddertick.specs.Table.{Holds}
+use Rattle.laddertick.specs.Converted.{table}
+
+-- a proof for each row, in the table's order
+pub converted : Holds table
+unfolding to300 element300 outside flatten toBits ofBits ofInt mul div lt before after beforeLast fields withoutTrailingCommas need low high numberSpelled sizeOr pointOf exactly placed rotationOf cellOf widthOf fontOf textFields textElement textReading lineFields lineElement lineReading cornersAt sizedAt drawnAt diagonalReading boxReading symbologyOf two.symbologyOf barcodeFields code128 interleaved code39 ean13 ean8 upcA upcE barcodeAt barcodeReading ratioOf aztecSize aztecOf datamatrixOf modeOf pdf417ModuleWidth pdf417RowHeight pdf417Truncate pdf417Of qrOf levelOf aztecReading datamatrixReading maxicodeReading pdf417Reading qrReading barcode2dReading headerAt headerPlace postal autoMode optionsOf lastCount lastNumber lastClamped opensGw closes afterHeaderField headerNumber fourClosed payloadOf gwNumbers measured gwSpan isReference isCounts isPrint commandOf countsOf referenceOf paramsOf quotedReading readLine unitsOf flush handing answer step trace first wellFormed faultOf be32 head extentBytes barBytes rowBytes fieldBytes frameOf scaleBytes labelFrame
+converted = (refl, (refl, (refl, (refl, (refl, (refl, (refl, (refl, (refl, (refl, (refl, (refl, (refl, (refl, (refl, (refl, (refl, (refl, (refl, (refl, (refl, (refl, (refl, (refl, (refl, (refl, (refl, (refl, (refl, (refl, (refl, tt)))))))))))))))))))))))))))))))
