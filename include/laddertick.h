@@ -1,11 +1,14 @@
 /*
  * Laddertick: reads and normalises EPL label files.
  *
- * Link libladdertick_c.a (`rt staticlib laddertick_c` writes target/staticlib/libladdertick_c.a), for x86-64. It needs no other library, keeps no state,
- * takes no heap and calls nothing: every function may be called from any thread at any time, also on the same input at once. A call needs less than 64 KiB
- * of stack (docs/PERFORMANCE.md has the measured figure).
+ * Link libladdertick, static or shared: `make install` puts it in place, and `pkg-config --cflags --libs laddertick` says how. It is for x86-64 (README.md says why). It needs no
+ * other library, keeps no state, takes no heap and calls nothing: every function may be called from any thread at any time, also on the same input at once. A call
+ * needs less than LADDERTICK_STACK bytes of stack.
  *
- * What you lend stays yours. A function reads `input` and writes `out` and `entries` only between their ends and only until it returns; it keeps no pointer. What
+ * All functions are proved but laddertick_version and laddertick_meaning. These two are a small file of C, a member of its own in the static library, which is linked only where
+ * one of them is called; what `rt staticlib laddertick_c` writes (target/staticlib/libladdertick_c.a) has all others.
+ *
+ * What you lend stays yours. A function reads `input` and writes `out`, `entries` and `list` only between their ends and only until it returns; it keeps no pointer. What
  * is lent to one call must not overlap, and nobody may write the input during a call or while a walk over it lasts. Where a length is 0 any pointer will do, NULL too.
  *
  * Nothing else is asked of you. Any bytes, any lengths, any walk state and any entry, however made, are answered or refused; a refused call leaves what it writes as it came.
@@ -23,49 +26,82 @@
 extern "C" {
 #endif
 
+/* The version of this header; LADDERTICK_VERSION_NUMBER is for #if, 10203 for 1.2.3. Within one major version a program that was linked with the shared object works with every
+   later one: functions and numbers of refusals are added, and none is changed or taken away.
+   VERSION writes these lines by tools/tables/run: version: begin */
+#define LADDERTICK_VERSION "1.0.0"
+#define LADDERTICK_VERSION_MAJOR 1
+#define LADDERTICK_VERSION_MINOR 0
+#define LADDERTICK_VERSION_PATCH 0
+#define LADDERTICK_VERSION_NUMBER 10000
+/* version: end */
+
+/* The version of the library that is linked, as LADDERTICK_VERSION has it: of a shared object it may be a later one. */
+const char *laddertick_version(void);
+
 /* "inputs up to 16,777,216 bytes": a longer one is refused 14. */
 #define LADDERTICK_LONGEST 16777216
 
-/*
- * Numbers of refusals, and their place.
- * The author of the label; the place is the first byte of the refused line, its blanks included:
- */
+/* The stack that a call may take, with all that it calls. */
+#define LADDERTICK_STACK 4096
+
+/* Numbers of refusals, and their place. refusals.txt writes these lines by tools/tables/run: refusals: begin */
 enum {
-    LADDERTICK_TEXT_FIELDS = 1,       /* A with fewer than 7 fields before its data; empty fields right before the data are not counted */
-    LADDERTICK_BARCODE_FIELDS = 2,    /* B with fewer than 8, counted alike */
-    LADDERTICK_BARCODE_2D_FIELDS = 3, /* b with fewer than 3, counted alike */
-    LADDERTICK_LINE_FIELDS = 4,       /* LO, LW or LE with fewer than 4 fields */
-    LADDERTICK_DIAGONAL_FIELDS = 5,   /* LS with fewer than 5 */
-    LADDERTICK_BOX_FIELDS = 6,        /* X with fewer than 5 */
-    LADDERTICK_BARCODE_TYPE = 7,      /* B with a type that is not listed */
-    LADDERTICK_BARCODE_2D_TYPE = 8,   /* b with a type that is not listed */
-    LADDERTICK_QR_DATA = 9,           /* QR data of more than 9,999 bytes, counted after decoding */
-    /* The sender of a graphic; same place: */
+    /* The author of the label; the place is the first byte of the refused line, its blanks included: */
+    LADDERTICK_TEXT_FIELDS = 1,        /* A with fewer than 7 fields before its data; empty fields right before the data are not counted */
+    LADDERTICK_BARCODE_FIELDS = 2,     /* B with fewer than 8, counted alike */
+    LADDERTICK_BARCODE_2D_FIELDS = 3,  /* b with fewer than 3, counted alike */
+    LADDERTICK_LINE_FIELDS = 4,        /* LO, LW or LE with fewer than 4 fields */
+    LADDERTICK_DIAGONAL_FIELDS = 5,    /* LS with fewer than 5 */
+    LADDERTICK_BOX_FIELDS = 6,         /* X with fewer than 5 */
+    LADDERTICK_BARCODE_TYPE = 7,       /* B with a type that is not listed */
+    LADDERTICK_BARCODE_2D_TYPE = 8,    /* b with a type that is not listed */
+    LADDERTICK_QR_DATA = 9,            /* QR data of more than 9,999 bytes, counted after decoding */
+    /* The sender of the graphic; the place is the first byte of the refused line, its blanks included: */
     LADDERTICK_GRAPHIC_FIELDS = 10,    /* GW with fewer than four commas on its line */
     LADDERTICK_GRAPHIC_NEGATIVE = 11,  /* GW with a negative width or number of lines */
     LADDERTICK_GRAPHIC_TRUNCATED = 12, /* GW whose data passes the end of the input */
-    /* The author again: a position outside 32 bits, the reference point added. */
-    LADDERTICK_OUT_OF_RANGE = 13,
-    /* The host: */
-    LADDERTICK_INPUT_TOO_LONG = 14,   /* more than LADDERTICK_LONGEST bytes; the place is 0 */
-    LADDERTICK_OUTPUT_TOO_SHORT = 15, /* the place is the length that is needed */
-    LADDERTICK_STATE_OUTSIDE = 16,    /* a walk whose place is past the end, or whose pending count is above its place; the place is the walk's. Or an entry whose last
-                                         place is past the end or before its first; the place is that last place */
-    /* The author again, at the first byte of the line, by the well-site profile alone (laddertick_check, laddertick_strict_list): */
-    LADDERTICK_NO_VALUE = 17,        /* a number field that holds no value: it is empty, no number, or a number beyond 32 bits */
-    LADDERTICK_OUTSIDE_PROFILE = 18, /* a value that the profile does not allow */
-    /* The author again, at the first byte of the line: a difference of two corners, its absolute value or a font product outside 32 bits; directly after 13. */
-    LADDERTICK_SIZE_OUT_OF_RANGE = 19,
-    /* The host again, with the label index: */
-    LADDERTICK_TOO_MANY_LABELS = 20, /* more labels than entries are lent; the place is the label count */
-    LADDERTICK_NO_SUCH_LABEL = 21,   /* a number past the list, or an entry that yields no label; the place is the number */
-    /* The host again, with what lies where: */
-    LADDERTICK_RECTANGLE_TURNED = 22, /* a rectangle whose far corner is below its near one on either axis; the place is 0 */
-    /* The author again, in laddertick_to_300 alone: a label with a graphic; the place is the first byte of its first block, blanks included. */
-    LADDERTICK_GRAPHIC_IN_LABEL = 24,
-    /* The host, by laddertick_join alone: a joined text of more than LADDERTICK_LONGEST bytes; the place is its length. */
-    LADDERTICK_JOINED_TOO_LONG = 25
+    /* The author of the label; the place is the first byte of the refused line, its blanks included: */
+    LADDERTICK_OUT_OF_RANGE = 13,      /* a position outside 32 bits, the reference point added, or converted to 300 dots an inch */
+    /* The host; the place is 0: */
+    LADDERTICK_INPUT_TOO_LONG = 14,    /* input of more than 16,777,216 bytes; in the programs list and normalise of more than 65,536 */
+    /* The host; the place is the length that is needed: */
+    LADDERTICK_OUTPUT_TOO_SHORT = 15,  /* output longer than its buffer */
+    /* The host; the place is the walk's place, or the entry's last place, as given: */
+    LADDERTICK_STATE_OUTSIDE = 16,     /* a walk whose place is past the end, or whose pending count is above its place; or an entry, when its label is opened, whose last place is past the end or before its first */
+    /* The author of the label, by the well-site profile alone; the place is the first byte of the refused line, its blanks included: */
+    LADDERTICK_NO_VALUE = 17,          /* a number field that holds no value: it is empty, no number, or a number beyond 32 bits */
+    LADDERTICK_OUTSIDE_PROFILE = 18,   /* a value that the profile does not allow */
+    /* The author of the label; the place is the first byte of the refused line, its blanks included: */
+    LADDERTICK_SIZE_OUT_OF_RANGE = 19, /* a difference of two corners, its absolute value, a font product or a length converted to 300 dots an inch outside 32 bits; directly after 13 */
+    /* The host; the place is the label count: */
+    LADDERTICK_TOO_MANY_LABELS = 20,   /* more labels than entries are lent to the index */
+    /* The host; the place is the number: */
+    LADDERTICK_NO_SUCH_LABEL = 21,     /* a number past the list, or an entry that yields no label, when it is opened */
+    /* The host; the place is 0: */
+    LADDERTICK_RECTANGLE_TURNED = 22,  /* a rectangle whose far corner is below its near one on either axis */
+    /* The author of the label, in a conversion to 300 dots an inch alone; the place is the first byte of the refused line, its blanks included: */
+    LADDERTICK_GRAPHIC_IN_LABEL = 24,  /* a label with a graphic; the line is that of its first block */
+    /* The host; the place is the joined length: */
+    LADDERTICK_JOINED_TOO_LONG = 25    /* two files whose joined text has more than 16,777,216 bytes */
 };
+
+/* Whether the place of a refusal is the first byte of a line. */
+#define LADDERTICK_IS_OF_LINE(number) (((number) >= 1 && (number) <= 13) || ((number) >= 17 && (number) <= 19) || (number) == 24)
+/* refusals: end */
+
+/* What the number of a refusal means, in words that an operator can be told; of 0 "no refusal", of a number that there is not "unknown". The text is constant and stays.
+   laddertick_messages.h has all of them as a list, for hosts that want them without a call. */
+const char *laddertick_meaning(uint32_t number);
+
+/* ---- how many bytes are always enough ---- */
+
+/* To lend to laddertick_data for len bytes of text, to laddertick_list, laddertick_strict_list and laddertick_normalise for a file of n bytes, to laddertick_join for files
+   of n and m: with so many no call is refused 15. For lengths up to LADDERTICK_LONGEST; constant where they are. */
+#define LADDERTICK_DATA_ROOM(len) (3 * (len))
+#define LADDERTICK_LIST_ROOM(n) (16 * (n))
+#define LADDERTICK_NORMALISE_ROOM(n) ((n) + (n) / 6 + 1)
+#define LADDERTICK_JOIN_ROOM(n, m) (LADDERTICK_NORMALISE_ROOM(n) + 2 + LADDERTICK_NORMALISE_ROOM(m))
 
 /* ---- a file, a step at a time ---- */
 
@@ -164,15 +200,16 @@ typedef struct laddertick_written {
     size_t place;
 } laddertick_written;
 
-/* The text of len bytes at start of the input (as far as it goes), decoded: UTF-8 as it stands, ef bf bd for what is none. 3 * len bytes are always enough.
+/* The text of len bytes at start of the input (as far as it goes), decoded: UTF-8 as it stands, ef bf bd for what is none. LADDERTICK_DATA_ROOM(len) bytes are always enough.
    Refusals: 14, 15. */
 laddertick_written laddertick_data(const uint8_t *input, size_t input_len, size_t start, size_t len, uint8_t *out, size_t out_len);
 
 /* The labels of a file as frames, one a line in hexadecimal (docs/FRAMES.md); behind them frame fe, if elements are pending at the end. The whole file is read
-   before anything is written. 16 * n bytes are always enough for n. Refusals: 1 to 15 and 19. */
+   before anything is written. LADDERTICK_LIST_ROOM(n) bytes are always enough for n. Refusals: 1 to 15 and 19. */
 laddertick_written laddertick_list(const uint8_t *input, size_t input_len, uint8_t *out, size_t out_len);
 
-/* The file with blanks and empty lines taken away and graphics copied whole. n + n / 6 + 1 bytes are always enough for n. Refusals: 14, 15. */
+/* The file with blanks and empty lines taken away and graphics copied whole. LADDERTICK_NORMALISE_ROOM(n) bytes are always enough for n.
+   Refusals: 14, 15. */
 laddertick_written laddertick_normalise(const uint8_t *input, size_t input_len, uint8_t *out, size_t out_len);
 
 /* ---- the well-site profile: a strict reading, for files typed by hand ---- */
@@ -257,7 +294,7 @@ typedef struct laddertick_joined {
 
 /* The first file normalised, a line N, the second normalised. Its labels are those of the first followed by those of the second, every frame the same; elements
    pending at the end of the first are dropped by the line N, those of the second are pending at the end. The graphics of both stand in it in order. Both files are
-   read whole before anything is written, and may be the same or overlap; neither may overlap out. n + n / 6 + m + m / 6 + 4 bytes are always enough for n and m.
+   read whole before anything is written, and may be the same or overlap; neither may overlap out. LADDERTICK_JOIN_ROOM(n, m) bytes are always enough for n and m.
    Refusals: those of laddertick_step for the first file, then those for the second, 14 too; then 25; then 15. */
 laddertick_joined laddertick_join(const uint8_t *first, size_t first_len, const uint8_t *second, size_t second_len, uint8_t *out, size_t out_len);
 

@@ -1,5 +1,5 @@
 /*
- * The numbers of refusals (laddertick.h) in words, one list for every host. In C:
+ * The numbers of refusals (laddertick.h) in words, as a list; laddertick_meaning gives one of them. In C:
  *
  *     #define ENTRY(number, words) [number] = words,
  *     static const char *const MESSAGES[] = {LADDERTICK_MESSAGES(ENTRY)};
@@ -10,6 +10,7 @@
 #define LADDERTICK_MESSAGES_H
 
 /* clang-format off */
+/* refusals.txt writes these lines by tools/tables/run: refusals: begin */
 #define LADDERTICK_MESSAGES(X) \
     X(1, "a text (A) needs 7 fields before its data, the last not empty: x, y, rotation, font, two multipliers, reverse") \
     X(2, "a bar code (B) needs 8 fields before its data, the last not empty: x, y, rotation, type, narrow, wide, height, line") \
@@ -35,6 +36,7 @@
     X(22, "the far corner is below the near one") \
     X(24, "a label with a graphic, which cannot be set for another resolution") \
     X(25, "a joined text of more than 16,777,216 bytes")
+/* refusals: end */
 /* clang-format on */
 
 #endif

@@ -9,7 +9,6 @@
 #include <string.h>
 
 #include "laddertick.h"
-#include "laddertick_messages.h"
 
 typedef struct bytes {
     uint8_t *at;
@@ -56,7 +55,7 @@ static void put_text(FILE *to, const uint8_t *at, size_t len, size_t most)
 static void put_name(const char *name)
 {
     enum { LONGEST_NAME = 4096 };
-    uint8_t text[3 * LONGEST_NAME];
+    uint8_t text[LADDERTICK_DATA_ROOM(LONGEST_NAME)];
     size_t len = strlen(name);
     laddertick_written w = laddertick_data((const uint8_t *)name, len, 0, len < LONGEST_NAME ? len : LONGEST_NAME, text, sizeof text);
     fputs("laddertick: ", stderr);
@@ -105,8 +104,9 @@ static bytes read_file(const char *name)
 /* len bytes at start of the input, decoded, between quotes. */
 static void put_decoded(FILE *to, const char *name, bytes input, size_t start, size_t len, size_t most)
 {
-    uint8_t *text = room(name, 3 * len);
-    laddertick_written w = laddertick_data(input.at, input.len, start, len, text, 3 * len);
+    size_t most_bytes = LADDERTICK_DATA_ROOM(len);
+    uint8_t *text = room(name, most_bytes);
+    laddertick_written w = laddertick_data(input.at, input.len, start, len, text, most_bytes);
     fputc('"', to);
     put_text(to, text, w.number == 0 ? w.place : 0, most);
     fputc('"', to);
@@ -122,17 +122,12 @@ static int flushed(int status)
     return 2;
 }
 
-#define ENTRY(number, words) [number] = words,
-static const char *const MESSAGES[] = {LADDERTICK_MESSAGES(ENTRY)};
-#undef ENTRY
-
 /* The refusal in words; where it is that of a line, with the number of the line, its place as the library gives it and the line's text. Gives the status to exit with. */
 static int refuse(const char *name, bytes input, unsigned number, size_t place)
 {
     put_name(name);
-    fprintf(stderr, "refused (%u): %s\n", number, MESSAGES[number]);
-    if (number < LADDERTICK_INPUT_TOO_LONG || (number > LADDERTICK_STATE_OUTSIDE && number <= LADDERTICK_SIZE_OUT_OF_RANGE) ||
-        number == LADDERTICK_GRAPHIC_IN_LABEL) {
+    fprintf(stderr, "refused (%u): %s\n", number, laddertick_meaning(number));
+    if (LADDERTICK_IS_OF_LINE(number)) {
         size_t line = 1, end = place;
         for (size_t i = 0; i < place; i++)
             line += input.at[i] == '\n';

@@ -6,7 +6,7 @@
  * CASES is a file of inputs (each its length, 4 bytes with the most significant first, and its bytes: crates/replay/stdin). Each input, as it stands and in
  * ROUNDS damaged copies, goes to every entry point: once with its first byte behind a guard page, once with its last byte before one, and not writable.
  * Buffers likewise, with room to spare, with just enough and with one byte less; lists of entries with one to spare, just enough and one less; and NULL of length 0 for
- * each. Calls run on a stack of 64 KiB between guard pages.
+ * each. Calls run on a stack of LADDERTICK_STACK bytes between guard pages, one page.
  * Held as well: a refused call leaves the buffer as it came, bytes past the written length keep their values, and both placements are answered alike.
  */
 #define _GNU_SOURCE
@@ -20,7 +20,7 @@
 
 #include "laddertick.h"
 
-enum { PAGE = 4096, STACK = 65536 };
+enum { PAGE = 4096 };
 
 /* What the run is at, for the report of a fault. */
 static const char *doing = "";
@@ -170,7 +170,7 @@ static uint64_t next(void)
 /* Room to spare for any answer to this input: a listing has at most 16 bytes a byte. */
 static size_t spare(void)
 {
-    return 16 * input_len + 64;
+    return LADDERTICK_LIST_ROOM(input_len) + 64;
 }
 
 /* The bytes of n that are no mark. */
@@ -232,6 +232,14 @@ static laddertick_written writes(const char *name, void (*function)(void), int l
     return whole;
 }
 
+/* The answer of `writes`, no longer than the header's macro says. */
+static laddertick_written within(laddertick_written w, size_t room)
+{
+    if (w.number == 0 && w.place > room)
+        wrong("longer than the room that is always enough");
+    return w;
+}
+
 static int same(laddertick_walk a, laddertick_walk b)
 {
     return a.place == b.place && a.x == b.x && a.y == b.y && a.pending == b.pending;
@@ -256,7 +264,7 @@ static uint64_t walks(int last, size_t *labels)
         if (len > 0 && (start > input_len || len > input_len - start))
             wrong("data outside the input");
         if (len > 0)
-            writes("laddertick_data", do_data, last);
+            within(writes("laddertick_data", do_data, last), LADDERTICK_DATA_ROOM(len));
         *labels += answer.kind == LADDERTICK_PRINT;
         walk = answer.next;
     } while (answer.kind != LADDERTICK_END && answer.kind != LADDERTICK_REFUSED);
@@ -273,7 +281,7 @@ static uint64_t checks(int last, laddertick_written plain)
         wrong("a field is told where there is none, or none where there is one");
     if (own ? checked.place >= input_len : checked.number != plain.number || checked.place != (plain.number == 0 ? 0 : plain.place))
         wrong("neither the profile's refusal nor the plain answer");
-    laddertick_written w = writes("laddertick_strict_list", do_strict_list, last);
+    laddertick_written w = within(writes("laddertick_strict_list", do_strict_list, last), LADDERTICK_LIST_ROOM(input_len));
     if (w.number != (own ? checked.number : plain.number) || w.place != (own ? checked.place : plain.place))
         wrong("not as laddertick_check and laddertick_list say");
     return checked.number + 31 * (checked.place + 31 * (checked.field + 31 * (uint64_t)checked.held));
@@ -468,7 +476,7 @@ static void made(int last)
 /* The input joined with the second half of it, behind the plain listing `plain`: where the input is refused, it is the first file. */
 static uint64_t joins(int last, laddertick_written plain)
 {
-    laddertick_written w = writes("laddertick_join", do_join, last);
+    laddertick_written w = within(writes("laddertick_join", do_join, last), LADDERTICK_JOIN_ROOM(input_len, second_len));
     int refused = w.number != 0;
     if (joined.file > 2 || (joined.file != 0) != refused)
         wrong("a file is told where none was refused, or none where one was");
@@ -518,7 +526,8 @@ static void hold(const uint8_t *bytes, size_t n)
         mprotect(seconds.at, seconds.len, PROT_READ);
         second = placed(seconds, second_len, last);
         sums[last] = walks(last, &labels);
-        laddertick_written listing = writes("laddertick_list", do_list, last), text = writes("laddertick_normalise", do_normalise, last);
+        laddertick_written listing = within(writes("laddertick_list", do_list, last), LADDERTICK_LIST_ROOM(n));
+        laddertick_written text = within(writes("laddertick_normalise", do_normalise, last), LADDERTICK_NORMALISE_ROOM(n));
         sums[last] = sums[last] * 31 + listing.number + listing.place;
         sums[last] = sums[last] * 31 + text.number + text.place;
         sums[last] = sums[last] * 31 + checks(last, listing);
@@ -591,10 +600,10 @@ int main(int argc, char **argv)
     static uint8_t bytes[65536], copy[65536];
     inputs = map(sizeof bytes);
     seconds = map(sizeof bytes);
-    outs = map(16 * sizeof bytes);
+    outs = map(LADDERTICK_LIST_ROOM(sizeof bytes));
     drawn = map(sizeof bytes * sizeof *elements / 4);
     lists = map(sizeof bytes * sizeof *entries / 4); /* an element and its print line have more than four bytes */
-    stack = map(STACK - PAGE);
+    stack = map(LADDERTICK_STACK - PAGE);
     memset(stack.at, 0xa5, stack.len);
     /* A fault on the small stack itself must still be told. */
     static uint8_t own[65536];

@@ -3,6 +3,7 @@ use std::{error, fmt};
 
 /// What a field held that the well-site profile objects to.
 #[derive(Clone, Copy, Debug, PartialEq, Eq)]
+#[non_exhaustive]
 pub enum Held {
     /// Nothing but blanks.
     Empty,
@@ -19,12 +20,14 @@ pub enum Held {
 pub struct Field {
     /// Counted from 1; of `R` everything behind the first comma is field 2.
     pub number: u32,
+    /// What it held.
     pub held: Held,
 }
 
 /// A file that the well-site profile refuses.
 #[derive(Clone, Copy, Debug, PartialEq, Eq)]
 pub struct Unfit {
+    /// The refusal.
     pub refused: Refused,
     /// Of 17 and 18; every other refusal is that of the plain reading and tells of no field.
     pub field: Option<Field>,

@@ -1,63 +1,185 @@
 use crate::raw;
 pub use crate::raw::Dots300;
 use crate::write::write;
+use std::borrow::Cow;
+use std::str;
 
 /// What a command draws. Its lengths `L` are dots as the file has them, or [`Dots300`].
 #[derive(Clone, Debug, PartialEq)]
 #[non_exhaustive]
 pub struct Element<'a, L = i32> {
-    /// The position in dots, the reference point added.
+    /// The position in dots, the reference point added: along x.
     pub x: L,
+    /// And along y.
     pub y: L,
+    /// What it is, with its numbers.
     pub kind: Kind<L>,
     /// The bytes of its data as they stand in the file: a graphic's dots, row by row (the Rust that this is a port of draws a 1 bit black); all other
     /// data is text. Empty where a kind has none.
     pub data: &'a [u8],
 }
 
-impl<L> Element<'_, L> {
-    /// The data as text: UTF-8 as it stands, U+FFFD for what is none. A graphic has none.
-    pub fn text(&self) -> Option<String> {
+impl<'a, L> Element<'a, L> {
+    /// The data as text: UTF-8 as it stands, which is borrowed from the file; else decoded, with U+FFFD for what is none. A graphic has none.
+    ///
+    /// ```
+    /// use std::borrow::Cow;
+    /// let label = |file| laddertick::labels(file).next().unwrap().unwrap();
+    /// let text = label("A1,2,0,1,1,1,N,\"S\u{fc}d 3\"\nP\n".as_bytes()).elements[0].text();
+    /// assert!(matches!(text, Some(Cow::Borrowed("S\u{fc}d 3"))));
+    /// let text = label(b"A1,2,0,1,1,1,N,\"S\xfcd 3\"\nP\n").elements[0].text();
+    /// assert_eq!(text.as_deref(), Some("S\u{fffd}d 3"));
+    /// ```
+    pub fn text(&self) -> Option<Cow<'a, str>> {
         if self.data.is_empty() || matches!(self.kind, Kind::Graphic { .. }) {
             return None;
         }
+        if let Ok(text) = str::from_utf8(self.data) {
+            return Some(Cow::Borrowed(text));
+        }
         let bytes = write(self.data.len(), |out| raw::data(self.data, 0, self.data.len(), out));
-        Some(String::from_utf8(bytes.expect("part of a file is no longer than the file")).expect("decoded data is UTF-8"))
+        let bytes = bytes.expect("part of a file is no longer than the file");
+        Some(Cow::Owned(String::from_utf8(bytes).expect("decoded data is UTF-8")))
     }
 }
 
-/// The kind of an element and its numbers. Sizes are in dots, rotations in quarter turns, 0 to 3.
+/// The kind of an element and its numbers. Sizes are in dots, rotations in quarter turns, 0 to 3. Later versions of the library may have more of them.
 #[derive(Clone, Debug, PartialEq)]
+#[non_exhaustive]
 pub enum Kind<L = i32> {
-    /// The height and the width are those that the scale gives.
-    Text { rotation: u8, reverse: bool, scale: Scale, height: f64, width: f64 },
+    /// A text.
+    Text {
+        /// Quarter turns.
+        rotation: u8,
+        /// White on black.
+        reverse: bool,
+        /// What it is set from.
+        scale: Scale,
+        /// The height of its cell, which is the one that the scale gives.
+        height: f64,
+        /// The width of its cell, likewise.
+        width: f64,
+    },
     /// A box, or a line that is one.
-    Box { width: L, height: L, thickness: L, colour: Colour },
-    /// It falls from top left to bottom right (a point does too), or rises from bottom left to top right, or is horizontal or vertical.
-    Diagonal { width: L, height: L, thickness: L, falls: bool },
-    /// 0 bytes a row where there is no data.
-    Graphic { row_bytes: i32 },
-    Code128 { bars: Bars<L>, mode: BarMode },
+    Box {
+        /// Its width.
+        width: L,
+        /// Its height.
+        height: L,
+        /// How thick its sides are; of a line the smaller of width and height.
+        thickness: L,
+        /// How it is drawn.
+        colour: Colour,
+    },
+    /// A diagonal.
+    Diagonal {
+        /// How far it goes along x.
+        width: L,
+        /// How far it goes along y.
+        height: L,
+        /// How thick it is.
+        thickness: L,
+        /// It falls from top left to bottom right (a point does too), or rises from bottom left to top right, or is horizontal or vertical.
+        falls: bool,
+    },
+    /// A graphic; its dots are the element's data.
+    Graphic {
+        /// Bytes a row; 0 where there is no data.
+        row_bytes: i32,
+    },
+    /// Code 128.
+    Code128 {
+        /// Its bars.
+        bars: Bars<L>,
+        /// Which of the three types the file names.
+        mode: BarMode,
+    },
+    /// EAN-13.
     Ean13(Bars<L>),
+    /// EAN-8.
     Ean8(Bars<L>),
+    /// UPC-A.
     UpcA(Bars<L>),
+    /// UPC-E.
     UpcE(Bars<L>),
-    /// The wide bar is the file's number, 0 and below too; the ratio is that of it to the narrow one, at least 2.
-    Interleaved2of5 { bars: Bars<L>, check: bool, wide: i32, ratio: f64 },
-    Code39 { bars: Bars<L>, check: bool, wide: i32, ratio: f64 },
-    /// Security -1, columns 0 and rows 0: the encoder chooses.
-    Pdf417 { rotation: u8, row_height: i32, security: i32, columns: i32, rows: i32, truncate: bool, module_width: i32 },
-    Aztec { magnification: i32, size: i32 },
-    DataMatrix { module: i32, columns: i32, rows: i32 },
-    Qr { magnification: i32, level: QrLevel },
-    Maxicode { mode: i32 },
+    /// Interleaved 2 of 5.
+    Interleaved2of5 {
+        /// Its bars.
+        bars: Bars<L>,
+        /// With a check digit.
+        check: bool,
+        /// The wide bar: the file's number, 0 and below too.
+        wide: i32,
+        /// Wide bar to narrow bar, at least 2.
+        ratio: f64,
+    },
+    /// Code 39.
+    Code39 {
+        /// Its bars.
+        bars: Bars<L>,
+        /// With a check digit.
+        check: bool,
+        /// The wide bar: the file's number, 0 and below too.
+        wide: i32,
+        /// Wide bar to narrow bar, at least 2.
+        ratio: f64,
+    },
+    /// PDF417.
+    Pdf417 {
+        /// Quarter turns.
+        rotation: u8,
+        /// The height of a row.
+        row_height: i32,
+        /// Its security level, 1 to 8; -1 where the encoder chooses.
+        security: i32,
+        /// The file's number of columns; 0 where the encoder chooses.
+        columns: i32,
+        /// The file's number of rows; 0 where the encoder chooses.
+        rows: i32,
+        /// Truncated.
+        truncate: bool,
+        /// The width of a module.
+        module_width: i32,
+    },
+    /// Aztec.
+    Aztec {
+        /// 1 to 55.
+        magnification: i32,
+        /// The file's number, which says error correction or layers; 0 where the encoder chooses.
+        size: i32,
+    },
+    /// Data Matrix.
+    DataMatrix {
+        /// The height of a module.
+        module: i32,
+        /// The file's number of columns; 0 where the encoder chooses.
+        columns: i32,
+        /// The file's number of rows; 0 where the encoder chooses.
+        rows: i32,
+    },
+    /// A QR code.
+    Qr {
+        /// 1 to 100.
+        magnification: i32,
+        /// Its error correction.
+        level: QrLevel,
+    },
+    /// MaxiCode.
+    Maxicode {
+        /// 2, 3, 4 or 6.
+        mode: i32,
+    },
 }
 
-/// How a box is drawn: black (`LO`, `X`), white (`LW`) or exclusive-OR (`LE`).
+/// How a box is drawn.
 #[derive(Clone, Copy, Debug, PartialEq, Eq)]
+#[non_exhaustive]
 pub enum Colour {
+    /// `LO` and `X`.
     Black,
+    /// `LW`.
     White,
+    /// `LE`.
     ExclusiveOr,
 }
 
@@ -66,17 +188,20 @@ pub enum Colour {
 pub struct Scale {
     /// The file's number; all but 2 to 5 have the sizes of font 1.
     pub font: i32,
-    /// The multipliers, at least 1.
+    /// The horizontal multiplier, at least 1.
     pub horizontal: i32,
+    /// The vertical multiplier, at least 1.
     pub vertical: i32,
 }
 
 /// What all bar codes with bars have.
 #[derive(Clone, Copy, Debug, PartialEq, Eq)]
 pub struct Bars<L = i32> {
+    /// Quarter turns.
     pub rotation: u8,
     /// The width of a narrow bar, in dots of whatever printer.
     pub narrow: i32,
+    /// The height of the bars.
     pub height: L,
     /// With its text below.
     pub line: bool,
@@ -85,17 +210,24 @@ pub struct Bars<L = i32> {
 /// The mode of a Code 128.
 #[derive(Clone, Copy, Debug, PartialEq, Eq)]
 pub enum BarMode {
+    /// UCC.
     Ucc,
+    /// The encoder chooses.
     Automatic,
+    /// EAN.
     Ean,
 }
 
-/// The error correction of a QR code.
+/// The error correction of a QR code, by its letter.
 #[derive(Clone, Copy, Debug, PartialEq, Eq)]
 pub enum QrLevel {
+    /// The highest.
     H,
+    /// The second.
     Q,
+    /// The third.
     M,
+    /// The lowest.
     L,
 }
 

@@ -3,6 +3,7 @@ use crate::raw::{self, Rectangle, Walk, Written};
 use crate::walk::{labels_from, steps_from, Label, Steps};
 use crate::write::write;
 use crate::Refused;
+use std::iter::FusedIterator;
 use std::ops::Range;
 
 /// Where each label of a file stands, so that one can be opened and no other be read. It borrows the file. Labels are numbered from 0, in the order in which they are
@@ -47,6 +48,7 @@ impl<'a> Index<'a> {
         self.entries.len()
     }
 
+    /// There is no label.
     pub fn is_empty(&self) -> bool {
         self.entries.is_empty()
     }
@@ -65,7 +67,7 @@ impl<'a> Index<'a> {
     /// assert_eq!(counts, [(0, 1), (1, 2)]);
     /// # Ok::<(), laddertick::Refused>(())
     /// ```
-    pub fn iter(&self) -> impl DoubleEndedIterator<Item = Entry<'a>> + ExactSizeIterator + '_ {
+    pub fn iter(&self) -> impl DoubleEndedIterator<Item = Entry<'a>> + ExactSizeIterator + FusedIterator + '_ {
         self.entries.iter().enumerate().map(|(number, &entry)| Entry { input: self.input, number, entry })
     }
 
@@ -112,7 +114,9 @@ impl<'a> Index<'a> {
 #[derive(Clone, Debug, PartialEq)]
 #[non_exhaustive]
 pub struct Label300<'a> {
+    /// Label sets.
     pub sets: i32,
+    /// Copies of each label.
     pub copies: i32,
     /// Its elements in file order.
     pub elements: Vec<Element<'a, Dots300>>,

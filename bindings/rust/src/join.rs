@@ -4,13 +4,16 @@ use std::{error, fmt};
 /// One of the two files that [`join`] is given.
 #[derive(Clone, Copy, Debug, PartialEq, Eq)]
 pub enum Part {
+    /// The first.
     First,
+    /// The second.
     Second,
 }
 
 /// Two files that are not joined.
 #[derive(Clone, Copy, Debug, PartialEq, Eq)]
 pub struct Unjoined {
+    /// The refusal; its place is in the file that was refused.
     pub refused: Refused,
     /// The file that was refused; none where both are accepted and their joined text is longer than [`LONGEST`](crate::LONGEST) (25).
     pub part: Option<Part>,

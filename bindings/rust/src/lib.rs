@@ -18,13 +18,17 @@
 //! inch.
 //!
 //! The work is done by a static library in which every function is proved to meet its contract, to return, and to touch only what it was lent
-//! (docs/CONTRACTS.md of the repository). This crate is the thin safe side of it: it allocates, the library does not.
+//! (docs/CONTRACTS.md of the repository). This crate is the thin safe side of it: it allocates, the library does not. To link, it needs the library: as `make install` has put it
+//! (`pkg-config laddertick`), or from the folder that the environment variable `LADDERTICK_LIB` names; to be checked or documented it does not.
+
+#![deny(missing_docs)]
 
 mod check;
 mod element;
 mod index;
 mod join;
 mod raw;
+mod refusal;
 mod refused;
 mod walk;
 mod write;
@@ -34,9 +38,13 @@ pub use element::{BarMode, Bars, Colour, Dots300, Element, Kind, QrLevel, Scale}
 pub use index::{Entry, Index, Label300};
 pub use join::{join, Part, Unjoined};
 pub use raw::Rectangle;
+pub use refusal::Refusal;
 pub use refused::Refused;
 pub use walk::{labels, steps, Label, Labels, Print, Step, Steps, Unprinted};
 use write::write;
+
+/// The version of this crate, which is that of the library that it was made with.
+pub const VERSION: &str = env!("CARGO_PKG_VERSION");
 
 /// The longest input; a longer one is refused 14.
 pub const LONGEST: usize = 16_777_216;

@@ -107,13 +107,17 @@ pub struct Joined {
     pub place: usize,
 }
 
-/// A closed rectangle: its near corner and its far one.
+/// A closed rectangle: its near corner and its far one. Its edges belong to it.
 #[repr(C)]
 #[derive(Clone, Copy, Debug, Default, PartialEq, Eq)]
 pub struct Rectangle {
+    /// The near corner: along x.
     pub x1: i32,
+    /// And along y.
     pub y1: i32,
+    /// The far corner: along x.
     pub x2: i32,
+    /// And along y.
     pub y2: i32,
 }
 
@@ -136,8 +140,26 @@ extern "C" {
     fn laddertick_check(input: *const u8, input_len: usize) -> Checked;
     fn laddertick_strict_list(input: *const u8, input_len: usize, out: *mut u8, out_len: usize) -> Written;
     fn laddertick_index(input: *const u8, input_len: usize, entries: *mut Entry, entries_len: usize) -> Written;
-    fn laddertick_inside(input: *const u8, input_len: usize, entries: *const Entry, entries_len: usize, number: usize, r: Rectangle, list: *mut usize, list_len: usize) -> Written;
-    fn laddertick_touching(input: *const u8, input_len: usize, entries: *const Entry, entries_len: usize, number: usize, r: Rectangle, list: *mut usize, list_len: usize) -> Written;
+    fn laddertick_inside(
+        input: *const u8,
+        input_len: usize,
+        entries: *const Entry,
+        entries_len: usize,
+        number: usize,
+        r: Rectangle,
+        list: *mut usize,
+        list_len: usize,
+    ) -> Written;
+    fn laddertick_touching(
+        input: *const u8,
+        input_len: usize,
+        entries: *const Entry,
+        entries_len: usize,
+        number: usize,
+        r: Rectangle,
+        list: *mut usize,
+        list_len: usize,
+    ) -> Written;
     fn laddertick_nearest(input: *const u8, input_len: usize, entries: *const Entry, entries_len: usize, number: usize, x: i32, y: i32) -> Written;
     fn laddertick_open(input: *const u8, input_len: usize, entries: *const Entry, entries_len: usize, number: usize, out: *mut u8, out_len: usize) -> Written;
     fn laddertick_join(first: *const u8, first_len: usize, second: *const u8, second_len: usize, out: *mut u8, out_len: usize) -> Joined;

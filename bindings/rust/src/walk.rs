@@ -2,10 +2,12 @@ use crate::element::{element, Element};
 use crate::raw::{self, Walk};
 use crate::Refused;
 use std::fmt;
+use std::iter::FusedIterator;
 
 /// What a step of a walk answers.
 #[derive(Clone, Debug, PartialEq)]
 pub enum Step<'a> {
+    /// An element of the label that is being drawn.
     Element(Element<'a>),
     /// The elements since the last clear or print are dropped.
     Clear,
@@ -18,8 +20,9 @@ pub enum Step<'a> {
 pub struct Print {
     /// How many elements it has.
     pub count: usize,
-    /// Label sets, and copies of each label: 0 or more, and 1 where the print line does not say.
+    /// Label sets: 0 or more, and 1 where the print line does not say.
     pub sets: i32,
+    /// Copies of each label, likewise.
     pub copies: i32,
 }
 
@@ -27,6 +30,7 @@ pub struct Print {
 /// no label".
 #[derive(Clone, Copy, Debug, PartialEq, Eq)]
 pub struct Unprinted {
+    /// How many there are, at least 1.
     pub elements: usize,
 }
 
@@ -89,11 +93,16 @@ impl<'a> Iterator for Steps<'a> {
     }
 }
 
-/// A label: its elements in file order, label sets and copies of each label.
+impl FusedIterator for Steps<'_> {}
+
+/// A label.
 #[derive(Clone, Debug, PartialEq)]
 pub struct Label<'a> {
+    /// Its elements, in file order.
     pub elements: Vec<Element<'a>>,
+    /// Label sets: 0 or more, and 1 where the print line does not say.
     pub sets: i32,
+    /// Copies of each label, likewise.
     pub copies: i32,
 }
 
@@ -136,3 +145,5 @@ impl<'a> Iterator for Labels<'a> {
         None
     }
 }
+
+impl FusedIterator for Labels<'_> {}

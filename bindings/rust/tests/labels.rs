@@ -1,8 +1,10 @@
 //! Answers that the scope document gives, through the safe crate.
 
 use laddertick::{
-    check, labels, list, normalise, steps, strict_list, BarMode, Bars, Colour, Dots300, Element, Field, Held, Index, Kind, Label, QrLevel, Refused, Scale, Step, Unfit, Unprinted, LONGEST,
+    check, labels, list, normalise, steps, strict_list, BarMode, Bars, Colour, Dots300, Element, Field, Held, Index, Kind, Label, QrLevel, Refusal, Refused,
+    Scale, Step, Unfit, Unprinted, LONGEST,
 };
+use std::borrow::Cow;
 
 /// The one element of a file with one label, and nothing behind it.
 fn one(file: &[u8]) -> Element<'_> {
@@ -130,6 +132,47 @@ fn refusals_say_number_place_and_meaning() {
     assert_eq!(walk.next().unwrap().unwrap().elements.len(), 1);
     assert_eq!(walk.next().unwrap().unwrap_err(), Refused { number: 6, place: 22 });
     assert!(walk.next().is_none());
+}
+
+/// Every number has one name, and every name its number and its words.
+#[test]
+fn refusals_by_name() {
+    let named: Vec<Refusal> = (0..=255).filter_map(Refusal::from_number).collect();
+    assert_eq!(named.len(), (1..=255).filter(|&number| Refused { number, place: 0 }.meaning() != "unknown").count());
+    for refusal in &named {
+        assert_eq!(Refusal::from_number(refusal.number()), Some(*refusal));
+        let refused = Refused { number: refusal.number(), place: 7 };
+        assert_eq!((refused.refusal(), refused.meaning()), (Some(*refusal), refusal.meaning()));
+        assert_eq!(refused.to_string().ends_with("at offset 7 (from 0)"), refusal.is_of_line());
+    }
+    assert_eq!((named[0], named[0].number()), (Refusal::TextFields, 1));
+    assert_eq!(labels(b"X1").next().unwrap().unwrap_err().refusal(), Some(Refusal::BoxFields));
+    assert_eq!(Refused { number: 255, place: 0 }.refusal(), None);
+    assert_eq!(Refused { number: 255, place: 7 }.to_string(), "refused (255): unknown");
+}
+
+/// Text that is UTF-8 is the file's own.
+#[test]
+fn text_is_borrowed() {
+    let file = "A1,2,0,1,1,1,N,\"S\u{fc}d\"\nP\n".as_bytes();
+    match one(file).text() {
+        Some(Cow::Borrowed(text)) => assert_eq!((text, text.as_ptr()), ("S\u{fc}d", file[16..].as_ptr())),
+        other => panic!("{other:?}"),
+    }
+    assert!(matches!(one(b"A1,2,0,1,1,1,N,\"\xff\xfe\"\nP\n").text(), Some(Cow::Owned(text)) if text == "\u{fffd}\u{fffd}"));
+}
+
+/// Behind the last item there is none, however often one asks.
+#[test]
+fn ends_stay_ends() {
+    fn fused<T: std::iter::FusedIterator>(mut walk: T) -> usize {
+        let count = walk.by_ref().count();
+        assert!(walk.next().is_none() && walk.next().is_none());
+        count
+    }
+    let file = b"LO1,1,1,1\nP\nX\nLO1,1,1,1\nP\n";
+    assert_eq!((fused(labels(file)), fused(steps(file)), fused(labels(b"")), fused(steps(b"N"))), (2, 3, 0, 1));
+    assert_eq!(fused(Index::of(b"LO1,1,1,1\nP\n").unwrap().iter()), 1);
 }
 
 /// The words are those that the C examples print; examples/c/test holds them against the same files.
