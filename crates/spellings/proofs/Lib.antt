@@ -1,0 +1,13 @@
+pub mod FieldLaws
+pub mod ExtentLaws
+pub mod DrawLaws
+pub mod LineLaws
+pub mod QuotedLaws
+pub mod CodeLaws
+pub mod OptionLaws
+pub mod Code2dLaws
+pub mod BoundLaws
+pub mod FontLaws
+pub mod YieldDraws
+pub mod YieldCodes
+pub mod YieldLines
