@@ -46,7 +46,7 @@ target/lib/$(SHARED): $(ARCHIVE) src/laddertick.map
 	$(CC) -shared -nostdlib $(LDFLAGS) -Wl,-soname,$(SONAME) -Wl,-z,defs,-z,noexecstack -Wl,--version-script=src/laddertick.map \
 	  -Wl,--whole-archive $(ARCHIVE) -Wl,--no-whole-archive -o $@
 
-# As ./laddertick looks at it: missing, or older than what it is made from.
+# Missing, or older than what it is made from. Where times alone have changed, ./laddertick build puts them right and builds nothing.
 $(PROVED): $(shell find crates crates.txt -type f)
 	@echo "$@ is missing or out of date: make it by ./laddertick build" >&2; exit 1
 

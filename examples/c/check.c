@@ -1,13 +1,16 @@
 /*
- * Checks a file typed by hand against the well-site profile.
+ * Checks files typed by hand against the well-site profile.
  *
- *     check FILE
+ *     check [--json] [--keep-going] [--encoding PAGE] FILE..
  *
- * An accepted file gives "ok" and the number of its labels; a refused one is told on standard error: the line, the field by its name and what it holds. Notes, which
- * refuse nothing, name what is passed over although it begins like a command, and what stands behind the last print line: so a label gets lost without a word.
+ * An accepted file gives "ok" and the number of its labels; a refused one is told on standard error: the line, the field by its name and what it holds. With --keep-going all lines that are
+ * refused are told. Notes, which refuse nothing, name what is passed over although it begins like a command, and what stands behind the last print line: so a label gets lost without a word.
  * What is passed over the library itself is asked, a line at a time.
  */
-#include "file.h"
+#include <inttypes.h>
+
+#include "on.h"
+#include "several.h"
 
 enum { MOST_NOTES = 20 };
 
@@ -78,8 +81,7 @@ static int begins(bytes input, part p, const char *letters)
 /* The line that begins at a place, without its LF. */
 static part line_at(bytes input, size_t at)
 {
-    const uint8_t *lf = at < input.len ? memchr(input.at + at, '\n', input.len - at) : NULL;
-    return (part){at, lf == NULL ? input.len : (size_t)(lf - input.at)};
+    return (part){at, end_of_line(input, at)};
 }
 
 /* The place of the first b in p, or its end. */
@@ -104,49 +106,97 @@ static part field_of(bytes input, part p, unsigned field, char letter)
     return trimmed(input, p);
 }
 
-static size_t line_number(bytes input, size_t place)
-{
-    size_t line = 1;
-    for (size_t i = 0; i < place; i++)
-        line += input.at[i] == '\n';
-    return line;
-}
+/* What a field held that was objected to: 1 to 4 as laddertick.h has them. */
+static const char *const HELD[] = {"", "empty", "no number", "beyond 32 bits", "outside the profile"};
 
-/* The field that was objected to, by its name, and what it holds. */
-static void put_field(const char *name, bytes input, laddertick_checked c)
+/* A refusal, and the field that was objected to, by its name, with what it holds. */
+static void put_objection(const char *name, bytes input, laddertick_checked c, lines *l)
 {
     part p = trimmed(input, line_at(input, c.place));
     const command *of = COMMANDS;
-    while (!begins(input, p, of->letters))
-        of++;
-    p.at += strlen(of->letters);
-    part f = field_of(input, p, c.field, of->letters[0]);
-    fprintf(stderr, "  line %zu, field %u (%s): ", line_number(input, c.place), (unsigned)c.field, of->fields[c.field - 1]);
-    if (c.held == LADDERTICK_HELD_EMPTY) {
-        fputs("it is empty\n", stderr);
+    part f = {0, 0};
+    if (c.field != 0) {
+        while (!begins(input, p, of->letters))
+            of++;
+        p.at += strlen(of->letters);
+        f = field_of(input, p, c.field, of->letters[0]);
+    }
+    if (asked.json) {
+        json_refusal(name, input, c.number, c.place, l);
+        if (c.field != 0) {
+            json_number("field", c.field);
+            json_words("field_name", of->fields[c.field - 1]);
+            json_words("held", HELD[c.held]);
+            json_bytes("value", asked.page, input.at + f.at, f.end - f.at);
+            if (c.held == LADDERTICK_HELD_OUTSIDE)
+                json_words("allowed", of->allowed[c.field - 1]);
+        }
+        json_close();
         return;
     }
-    put_decoded(stderr, name, input, f.at, f.end - f.at, 60);
-    if (c.held == LADDERTICK_HELD_NO_NUMBER)
-        fputs(" is no number\n", stderr);
-    else if (c.held == LADDERTICK_HELD_BEYOND)
-        fputs(" is beyond 32 bits\n", stderr);
-    else
-        fprintf(stderr, " is outside the profile: %s\n", of->allowed[c.field - 1]);
+    put_refusal(name, input, c.number, c.place, l);
+    if (c.field != 0) {
+        fprintf(stderr, "  line %zu, field %u (%s): ", line_of(l, input, c.place), (unsigned)c.field, of->fields[c.field - 1]);
+        if (c.held == LADDERTICK_HELD_EMPTY)
+            fputs("it", stderr);
+        else
+            put_quoted(stderr, input, f.at, f.end - f.at, 60);
+        fprintf(stderr, " is %s%s%s\n", HELD[c.held], c.held == LADDERTICK_HELD_OUTSIDE ? ": " : "", c.held == LADDERTICK_HELD_OUTSIDE ? of->allowed[c.field - 1] : "");
+    }
+    put_going_on(input, c.number, c.place, l);
 }
 
 /* ---- notes ---- */
 
-static size_t notes;
+/* A file whose notes are written; how many of them are on lines that are passed over. */
+typedef struct noting {
+    const char *name;
+    bytes input;
+    const uint8_t *lead; /* the input, with an LF before it */
+    size_t passed;
+    lines lines;
+} noting;
 
-/* A note on a line, of which the first bytes are shown; no more than MOST_NOTES of them. */
-static void note(const char *name, bytes input, part p, const char *words)
+/* The object of a note, on a line or, where that is 0, on the file. */
+static void json_note(const noting *n, size_t line, part p, const char *words)
 {
-    if (++notes > MOST_NOTES)
+    json_open(n->name, "note");
+    if (line != 0) {
+        json_number("line", (long long)line);
+        json_bytes("text", asked.page, n->input.at + p.at, p.end - p.at);
+    } else {
+        fputs(",\"line\":null", stdout);
+    }
+    json_words("note", words);
+    json_close();
+}
+
+/* A note on the file as a whole. */
+static void note_whole(const noting *n, const char *words)
+{
+    if (asked.json) {
+        json_note(n, 0, (part){0, 0}, words);
         return;
-    printf("note: line %zu: ", line_number(input, p.at));
-    p = trimmed(input, p);
-    put_decoded(stdout, name, input, p.at, p.end - p.at, 60);
+    }
+    put_prefix(n->name);
+    printf("note: %s\n", words);
+}
+
+/* A note on a line that is passed over, of which the first bytes are shown; in words no more than MOST_NOTES of them. */
+static void note_passed(noting *n, part p, const char *words)
+{
+    n->passed++;
+    if (!asked.json && n->passed > MOST_NOTES)
+        return;
+    size_t line = line_of(&n->lines, n->input, p.at);
+    p = trimmed(n->input, p);
+    if (asked.json) {
+        json_note(n, line, p, words);
+        return;
+    }
+    put_prefix(n->name);
+    printf("note: line %zu: ", line);
+    put_quoted(stdout, n->input, p.at, p.end - p.at, 60);
     printf(" %s\n", words);
 }
 
@@ -198,8 +248,9 @@ static const char *why_passed(bytes input, part p)
 }
 
 /* The lines up to `end`, in the order of the file. A graphic block is passed by a step of the library: it may hold anything. */
-static void note_lines(const char *name, bytes input, const uint8_t *lead, size_t end)
+static void note_lines(noting *n, size_t end)
 {
+    bytes input = n->input;
     for (size_t at = 0; at < end;) {
         part p = line_at(input, at);
         if (begins(input, trimmed(input, p), "GW")) {
@@ -210,26 +261,35 @@ static void note_lines(const char *name, bytes input, const uint8_t *lead, size_
             }
         }
         const char *why = why_passed(input, p);
-        if (why != NULL && is_passed(lead, p))
-            note(name, input, p, why);
+        if (why != NULL && is_passed(n->lead, p))
+            note_passed(n, p, why);
         at = p.end + 1;
     }
-    if (notes > MOST_NOTES)
-        printf("note: %zu more lines are passed over although they begin like a command\n", notes - MOST_NOTES);
+    if (n->passed > MOST_NOTES && !asked.json) {
+        put_prefix(n->name);
+        printf("note: %zu more lines are passed over although they begin like a command\n", n->passed - MOST_NOTES);
+    }
 }
 
 /* A byte order mark before a first line that would say something without it. */
-static void note_mark(const char *name, bytes input, const uint8_t *lead)
+static void note_mark(const noting *n)
 {
-    part p = line_at(input, 0);
-    if (!begins(input, p, "\xef\xbb\xbf"))
+    static const char words[] = "a byte order mark stands before the first line, which is passed over for it";
+    part p = line_at(n->input, 0);
+    if (!begins(n->input, p, "\xef\xbb\xbf"))
         return;
     p.at += 3;
-    if (begins(input, p, "GW") || !is_passed(lead, p) || why_passed(input, p) != NULL) {
-        fputs("note: a byte order mark stands before the first line, which is passed over for it: ", stdout);
-        put_decoded(stdout, name, input, p.at, trimmed(input, p).end - p.at, 60);
-        fputc('\n', stdout);
+    if (!begins(n->input, p, "GW") && is_passed(n->lead, p) && why_passed(n->input, p) == NULL)
+        return;
+    p.end = trimmed(n->input, p).end;
+    if (asked.json) {
+        json_note(n, 1, p, words);
+        return;
     }
+    put_prefix(n->name);
+    printf("note: %s: ", words);
+    put_quoted(stdout, n->input, p.at, p.end - p.at, 60);
+    putchar('\n');
 }
 
 /* The file has text of two bytes a character: it begins with that byte order mark, or every second byte of its first ones is 0. */
@@ -267,13 +327,23 @@ static const char *other_language(bytes input)
 }
 
 /* What is wrong with the file as a whole, where nothing was read from it. */
-static void note_file(bytes input)
+static void note_file(const noting *n)
 {
-    const char *language = other_language(input);
-    if (is_utf_16(input))
-        puts("note: the file is UTF-16, and nothing is read from it: save it as ASCII or UTF-8");
+    const char *language = other_language(n->input);
+    char words[128];
+    snprintf(words, sizeof words, "the file looks like %s and not like EPL: nothing is read from it", language == NULL ? "" : language);
+    if (is_utf_16(n->input))
+        note_whole(n, "the file is UTF-16, and nothing is read from it: save it as ASCII or UTF-8");
     else if (language != NULL)
-        printf("note: the file looks like %s and not like EPL: nothing is read from it\n", language);
+        note_whole(n, words);
+}
+
+static void note_pending(const noting *n, size_t pending)
+{
+    char words[128];
+    snprintf(words, sizeof words, "%zu element%s behind the last print line %s on no label", pending, pending == 1 ? "" : "s", pending == 1 ? "is" : "are");
+    if (pending != 0)
+        note_whole(n, words);
 }
 
 /* ---- the file ---- */
@@ -282,60 +352,125 @@ typedef struct tally {
     size_t labels, elements, pending;
 } tally;
 
-/* A walk over an accepted file. */
+/* A walk over a file that the plain reading accepts; of any other, what it has without its refused lines. */
 static tally walk_file(bytes input)
 {
     tally t = {0, 0, 0};
+    size_t refused = 0;
     laddertick_walk walk = laddertick_start();
     for (;;) {
-        laddertick_answer a = laddertick_step(input.at, input.len, walk);
-        if (a.kind == LADDERTICK_END || a.kind == LADDERTICK_REFUSED) {
-            t.pending = a.next.pending;
+        laddertick_answer a = step_on(input, walk);
+        if (is_last(a)) {
+            t.pending = a.next.pending - refused;
             return t;
         }
+        refused += a.kind == LADDERTICK_REFUSED;
+        if (a.kind == LADDERTICK_PRINT || a.kind == LADDERTICK_CLEAR)
+            refused = 0;
         t.labels += a.kind == LADDERTICK_PRINT;
-        t.elements += a.kind >= LADDERTICK_TEXT && a.kind <= LADDERTICK_UPC_E;
+        t.elements += is_element(a);
         walk = a.next;
     }
 }
 
-int main(int argc, char **argv)
+/* The longest reference line, and the LF before a file whose notes are written. */
+enum { LEAD = 32 };
+
+/* The verdict on a file from a place on, where a unit begins and the reference is that of the walk. `copy` is the file with LEAD bytes before it, of which what stands before the place is
+   overwritten: the reference is said there by a line, which the profile accepts. It is no longer than the line that set the reference, so that the whole is within the limit
+   if the file is; and no reference has an x below 0, since only a digit follows R. */
+static laddertick_checked check_from(uint8_t *copy, size_t len, laddertick_walk walk)
 {
-    if (argc != 2) {
-        fputs("usage: check FILE\n", stderr);
-        return 2;
+    char line[LEAD] = "";
+    if (walk.y != 0)
+        snprintf(line, sizeof line, "R%" PRId32 ",%" PRId32 "\n", walk.x, walk.y);
+    else if (walk.x != 0)
+        snprintf(line, sizeof line, "R%" PRId32 "\n", walk.x);
+    size_t before = strlen(line);
+    uint8_t *at = copy + LEAD + walk.place - before;
+    memcpy(at, line, before);
+    laddertick_checked c = laddertick_check(at, before + len - walk.place);
+    if (LADDERTICK_IS_OF_LINE(c.number))
+        c.place = c.place + walk.place - before;
+    return c;
+}
+
+/* The plain reading from a walk on up to a place where a unit begins. What the profile alone refuses it reads. */
+static laddertick_walk walk_to(bytes input, laddertick_walk walk, size_t place)
+{
+    laddertick_answer a;
+    do {
+        a = step_on((bytes){input.at, place}, walk);
+        walk = a.next;
+    } while (!is_last(a));
+    return walk;
+}
+
+/* Tells all refusals of a file whose first one is c, and gives their number. */
+static size_t object(const char *name, bytes input, laddertick_checked c, uint8_t *copy)
+{
+    laddertick_walk walk = laddertick_start();
+    lines l = {0, 0};
+    size_t count = 0;
+    while (c.number != 0) {
+        put_objection(name, input, c, &l);
+        count++;
+        if (!asked.keep_going || !LADDERTICK_IS_OF_LINE(c.number))
+            break;
+        walk = walk_to(input, walk, behind_refused(input, c.place));
+        c = check_from(copy, input.len, walk);
     }
-    bytes input = read_file(argv[1]);
+    return count;
+}
+
+/* The verdict of an accepted file. */
+static void put_ok(const char *name, size_t labels)
+{
+    put_prefix(name);
+    if (labels == 0)
+        puts("ok, no labels");
+    else
+        printf("ok, %zu label%s\n", labels, labels == 1 ? "" : "s");
+}
+
+static int check_file(const char *name, bytes input, const void *with)
+{
+    (void)with;
     laddertick_checked c = laddertick_check(input.at, input.len);
     tally t = {0, 0, 0};
-    if (c.number == 0) {
+    size_t refused = 0;
+    uint8_t *copy = NULL;
+    if (c.number == 0 || (asked.keep_going && LADDERTICK_IS_OF_LINE(c.number)))
         t = walk_file(input);
-        if (t.labels == 0)
-            puts("ok, no labels");
-        else
-            printf("ok, %zu label%s\n", t.labels, t.labels == 1 ? "" : "s");
-    }
+    if (c.number == 0 && !asked.json)
+        put_ok(name, t.labels);
     if (c.number != LADDERTICK_INPUT_TOO_LONG) {
-        uint8_t *lead = room(argv[1], input.len + 1);
-        lead[0] = '\n';
-        memcpy(lead + 1, input.at, input.len);
+        copy = room(name, LEAD + input.len);
+        memset(copy, '\n', LEAD);
+        memcpy(copy + LEAD, input.at, input.len);
+        noting n = {name, input, copy + LEAD - 1, 0, {0, 0}};
         if (t.elements == 0)
-            note_file(input);
+            note_file(&n);
         if (is_all_returns(input))
-            puts("note: the lines end in carriage returns alone: all of the file is one line");
-        note_mark(argv[1], input, lead);
-        note_lines(argv[1], input, lead, c.number == 0 ? input.len : c.place);
-        free(lead);
+            note_whole(&n, "the lines end in carriage returns alone: all of the file is one line");
+        note_mark(&n);
+        note_lines(&n, c.number == 0 || asked.keep_going ? input.len : c.place);
+        note_pending(&n, t.pending);
     }
-    if (t.pending != 0)
-        printf("note: %zu element%s behind the last print line %s on no label\n", t.pending, t.pending == 1 ? "" : "s", t.pending == 1 ? "is" : "are");
     /* What goes to standard output is out before the words of a refusal. */
     int status = flushed(0);
-    if (c.number != 0 && status == 0) {
-        status = refuse(argv[1], input, c.number, c.place);
-        if (c.field != 0)
-            put_field(argv[1], input, c);
+    if (status == 0) {
+        refused = object(name, input, c, copy);
+        status = refused != 0;
     }
-    free(input.at);
+    if (asked.json)
+        json_file(name, t.labels, t.pending, refused);
+    free(copy);
     return status;
+}
+
+int main(int argc, char **argv)
+{
+    (void)argc;
+    return on_files(read_options(argv + 1, "jke", "check [--json] [--keep-going] [--encoding PAGE] FILE.."), check_file, NULL);
 }

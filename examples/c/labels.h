@@ -27,7 +27,7 @@ static inline void warn_of_pending(const char *name, size_t n)
 {
     if (n == 0)
         return;
-    put_name(name);
+    put_complaint(name);
     fprintf(stderr, "%zu %s behind the last print line: no label\n", n, n == 1 ? "element" : "elements");
 }
 
@@ -43,6 +43,31 @@ static inline bytes cut_at(bytes input, laddertick_entry entry)
     return (bytes){input.at, entry.last};
 }
 
+/* Where a label's elements begin: behind the last clear in it. */
+static inline laddertick_walk first_of(bytes input, laddertick_entry entry)
+{
+    laddertick_walk walk = walk_from(entry), first = walk;
+    laddertick_answer a;
+    do {
+        a = laddertick_step(input.at, entry.last, walk);
+        walk = a.next;
+        if (a.kind == LADDERTICK_CLEAR)
+            first = walk;
+    } while (a.kind != LADDERTICK_PRINT && a.kind != LADDERTICK_END && a.kind != LADDERTICK_REFUSED);
+    return first;
+}
+
+/* The last answer of a walk: the end, or a refusal. */
+static inline laddertick_answer to_end(bytes input, laddertick_walk walk)
+{
+    laddertick_answer a;
+    do {
+        a = laddertick_step(input.at, input.len, walk);
+        walk = a.next;
+    } while (a.kind != LADDERTICK_END && a.kind != LADDERTICK_REFUSED);
+    return a;
+}
+
 /* A label's number, from 1; nothing else is taken for one, and no file has labels enough for ten digits. */
 static inline size_t label_number(const char *word)
 {
@@ -55,9 +80,17 @@ static inline size_t label_number(const char *word)
 /* There is no label of this number. Gives the status to exit with. */
 static inline int refuse_number(const char *name, bytes input, size_t number, size_t count)
 {
-    int status = refuse(name, input, LADDERTICK_NO_SUCH_LABEL, number - 1);
+    lines l = {0, 0};
+    if (asked.json) {
+        json_refusal(name, input, LADDERTICK_NO_SUCH_LABEL, number - 1, &l);
+        json_number("label", (long long)number);
+        json_number("labels", (long long)count);
+        json_close();
+        return 1;
+    }
+    put_refusal(name, input, LADDERTICK_NO_SUCH_LABEL, number - 1, &l);
     fprintf(stderr, "  label %zu (from 1): the file has %zu\n", number, count);
-    return status;
+    return 1;
 }
 
 #endif

@@ -13,12 +13,6 @@
 
 /* ---- where the line stands ---- */
 
-static size_t end_of_line(bytes input, size_t at)
-{
-    const uint8_t *lf = at < input.len ? memchr(input.at + at, '\n', input.len - at) : NULL;
-    return lf == NULL ? input.len : (size_t)(lf - input.at);
-}
-
 /* What begins here opens a graphic block: GW behind ASCII blanks other than LF. */
 static int opens_graphic(bytes input, size_t at)
 {
@@ -179,7 +173,7 @@ static void tell_end(size_t n, int old, int new)
 /* A refusal of what is not covered. */
 static int decline(const char *name, const char *line, const char *why)
 {
-    put_name(name);
+    put_complaint(name);
     fprintf(stderr, "line %s: %s\n", line, why);
     return 1;
 }
@@ -246,7 +240,7 @@ static void tell_change(const char *name, bytes input, size_t place, size_t end,
     size_t between;
     uint8_t next = walk_back(input, end + (end < input.len), f.there, &between);
     size_t others = f.there.pending + between;
-    put_name(name);
+    put_complaint(name);
     if (!old && !new)
         fputs("neither line yields an element; every frame stays\n", stderr);
     else if (next == LADDERTICK_CLEAR)

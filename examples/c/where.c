@@ -7,6 +7,7 @@
  * Elements have the numbers that explain prints, from 1. A refused file is explained on standard error, and nothing else is printed.
  */
 #include "labels.h"
+#include "on.h"
 #include "words.h"
 
 /* So many numbers of 32 bits with commas between them; nothing else is taken for it. */
@@ -25,26 +26,24 @@ static void numbers(const char *word, int32_t *to, size_t n)
     }
 }
 
-/* The lines of the elements with these numbers, which rise; what is said of them stands before each. */
-static void put_elements(const char *name, bytes input, laddertick_entry entry, const size_t *list, size_t len, const char *said)
+/* The lines of the elements with these numbers, which rise; what is said of them stands before each. The columns are those of the whole label, so that what is found in two ways stands alike. */
+static void put_elements(bytes input, laddertick_entry entry, const size_t *list, size_t len, const char *said)
 {
-    laddertick_walk walk = walk_from(entry), first = walk;
-    laddertick_answer a;
-    /* The label begins behind its last clear. */
-    do {
-        a = laddertick_step(input.at, entry.last, walk);
-        walk = a.next;
-        if (a.kind == LADDERTICK_CLEAR)
-            first = walk;
-    } while (a.kind != LADDERTICK_PRINT && a.kind != LADDERTICK_END && a.kind != LADDERTICK_REFUSED);
-    walk = first;
-    for (size_t i = 0, n = 0; i < len; n++) {
-        a = laddertick_step(input.at, entry.last, walk);
-        walk = a.next;
-        if (n == list[i]) {
-            fputs(said, stdout);
-            explain(name, input, a.element, n + 1);
-            i++;
+    columns wide = {0, 0, 0, 0};
+    for (int out = 0; out <= 1; out++) {
+        laddertick_walk walk = first_of(input, entry);
+        lines l = {0, 0};
+        for (size_t i = 0, n = 0; out ? i < len : n < entry.count; n++) {
+            laddertick_answer a = laddertick_step(input.at, entry.last, walk);
+            standing s = {n + 1, line_of(&l, input, place_of(a))};
+            walk = a.next;
+            if (!out) {
+                wide = with_element(wide, a.element, s);
+            } else if (n == list[i]) {
+                fputs(said, stdout);
+                explain(input, a.element, s, wide);
+                i++;
+            }
         }
     }
 }
@@ -60,7 +59,7 @@ static laddertick_written put_found(const char *name, bytes input, labels l, siz
     size_t *list = (size_t *)room(name, w.place * sizeof *list);
     w = find(input.at, input.len, l.at, l.len, i, r, list, w.place);
     if (w.number == 0)
-        put_elements(name, input, l.at[i], list, w.place, said);
+        put_elements(input, l.at[i], list, w.place, said);
     free(list);
     return w;
 }
@@ -82,7 +81,7 @@ int main(int argc, char **argv)
     if (w.number == 0 && at) {
         w = laddertick_nearest(input.at, input.len, l.at, l.len, i, n[0], n[1]);
         if (w.number == 0)
-            put_elements(name, input, l.at[i], &w.place, 1, "nearest:");
+            put_elements(input, l.at[i], &w.place, 1, "nearest:");
     } else if (w.number == 0) {
         laddertick_rectangle r = {n[0], n[1], n[2], n[3]};
         w = put_found(name, input, l, i, r, laddertick_inside, "inside:  ");
