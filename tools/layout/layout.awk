@@ -1,5 +1,6 @@
 # Reads the structs that Rattle sources mark #[repr(C)] and writes, for C (-v to=c) or Rust (-v to=rust), assertions that the host's structs of the same
-# meaning have the same fields and no other, each of its type and in its place. A struct without a name at the host's stands there field by field.
+# meaning have the same fields and no other, each of its type and in its place; for Python (-v to=python) a table of them, which structs.py holds against the classes of ctypes.
+# A struct without a name at the host's stands there field by field.
 BEGIN {
   size["u8"] = 1; size["i32"] = 4; size["u32"] = 4; size["usize"] = 8; size["f64"] = 8
   if (to == "c") {
@@ -10,8 +11,9 @@ BEGIN {
   } else {
     host["FlatAnswer"] = "Answer"; host["Element"] = "Element"; host["WalkState"] = "Walk"; host["Written"] = "Written"
     host["Checked"] = "Checked"; host["LabelEntry"] = "Entry"
-    host["Joined"] = "Joined"; host["Rectangle"] = "Rectangle"; host["Element300"] = "Element300"; host["Label300"] = "Label300"
+    host["Joined"] = "Joined"; host["Rectangle"] = "Rectangle"; host["Element300"] = "Element300"; host["Label300"] = to == "python" ? "Label" : "Label300"
     for (t in size) type[t] = t
+    if (to == "python") { type["u8"] = "c_uint8"; type["i32"] = "c_int32"; type["u32"] = "c_uint32"; type["usize"] = "c_size_t"; type["f64"] = "c_double" }
   }
   for (s in host) type[s] = host[s]
 }
@@ -19,7 +21,7 @@ BEGIN {
 # ---- the declarations
 /^#\[repr\(C\)\]$/ { marked = 1; next }
 # a number in a type of its own, as which only Rust has it
-marked && /^pub struct [A-Za-z0-9]+\(pub i32\);$/ { t = $3; sub(/\(.*/, "", t); size[t] = size["i32"]; type[t] = to == "c" ? type["i32"] : t; marked = 0; next }
+marked && /^pub struct [A-Za-z0-9]+\(pub i32\);$/ { t = $3; sub(/\(.*/, "", t); size[t] = size["i32"]; type[t] = to == "rust" ? t : type["i32"]; marked = 0; next }
 marked && /^pub struct [A-Za-z0-9]+ \{$/ { struct = $3; structs[struct] = ++declared; order[declared] = struct; marked = 0; next }
 marked { stop("no struct behind #[repr(C)]") }
 struct && /^}$/ { struct = ""; next }
@@ -106,6 +108,8 @@ END {
       # -Wmissing-field-initializers tells a field more, and the compiler one less
       printf "static const %s every_%s __attribute__((unused)) = {%s};\n", h, h, zeros(s)
       printf "#define FIELDS_%s(F)%s\n", h, leaves(s, "")
+    } else if (to == "python") {
+      for (i = 1; i <= k; i++) printf "%s %d %s %s %d\n", h, size[s], f_name[i], type[f_type[i]], f_place[i]
     } else {
       printf "const _: () = assert!(core::mem::size_of::<%s>() == %d, \"the size of %s\");\n", h, size[s], h
       for (i = 1; i <= k; i++) printf "const _: () = assert!(core::mem::offset_of!(%s, %s) == %d, \"the place of %s.%s\");\n", h, f_name[i], f_place[i], h, f_name[i]

@@ -1,4 +1,4 @@
-# Reads refusals.txt and writes one part of a file (tools/tables/run), -v part: the version as C macros or as a line of Cargo.toml, the refusals as C, Rust, Markdown or man(7).
+# Reads refusals.txt and writes one part of a file (tools/tables/run), -v part: the version as C macros or as a line of Cargo.toml or Python, the refusals as C, Rust, Python, Markdown or man(7).
 BEGIN {
   FS = " \\| "
   who["author"] = "the author of the label"
@@ -93,6 +93,25 @@ function rust_refusals(    i) {
   print "}"
 }
 
+function python_version() { printf "VERSION = \"%s\"\n", version }
+
+function python_refusals(    i) {
+  print "@unique"
+  print "class Refusal(IntEnum):"
+  print "    \"\"\"Why a call is refused. Where nothing else is said, the place is " line ".\"\"\""
+  print ""
+  for (i = 1; i <= n; i++) {
+    printf "    %s = %d\n", in_c[i], number[i]
+    printf "    \"\"\"%s: %s.", capital(by[i]), when[i]
+    printf of_line[i] ? "\"\"\"\n" : " The place is %s.\"\"\"\n", place[i]
+  }
+  print ""
+  print ""
+  print "def is_of_line(number: int) -> bool:"
+  print "    \"\"\"Whether the place of the refusal with this number is the first byte of a line.\"\"\""
+  printf "    return %s\n", runs(" or ", "number == %d", "%d <= number <= %d")
+}
+
 function page_refusals(    i) {
   print "| number | name | who | when | place |"
   print "|---|---|---|---|---|"
@@ -123,6 +142,8 @@ END {
   else if (part == "messages_refusals") messages_refusals()
   else if (part == "cargo_version") cargo_version()
   else if (part == "rust_refusals") rust_refusals()
+  else if (part == "python_version") python_version()
+  else if (part == "python_refusals") python_refusals()
   else if (part == "page_refusals") page_refusals()
   else if (part == "man_refusals") man_refusals()
   else stop("no such part: " part)
