@@ -1,5 +1,5 @@
 /*
- * Laddertick: reads and normalises EPL label files.
+ * Laddertick: reads, normalises and writes EPL label files.
  *
  * Link libladdertick, static or shared: `make install` puts it in place, and `pkg-config --cflags --libs laddertick` says how. It is for x86-64 (README.md says why). It needs no
  * other library, keeps no state, takes no heap and calls nothing: every function may be called from any thread at any time, also on the same input at once. A call
@@ -8,10 +8,10 @@
  * All functions are proved but laddertick_version and laddertick_meaning. These two are a small file of C, a member of its own in the static library, which is linked only where
  * one of them is called; what `rt staticlib laddertick_c` writes (target/staticlib/libladdertick_c.a) has all others.
  *
- * What you lend stays yours. A function reads `input` and writes `out`, `entries` and `list` only between their ends and only until it returns; it keeps no pointer. What
+ * What you lend stays yours. A function reads `input` and `elements` and writes `out`, `entries` and `list` only between their ends and only until it returns; it keeps no pointer. What
  * is lent to one call must not overlap, and nobody may write the input during a call or while a walk over it lasts. Where a length is 0 any pointer will do, NULL too.
  *
- * Nothing else is asked of you. Any bytes, any lengths, any walk state and any entry, however made, are answered or refused; a refused call leaves what it writes as it came.
+ * Nothing else is asked of you. Any bytes, any lengths, any walk state, any entry and any element, however made, are answered or refused; a refused call leaves what it writes as it came.
  * For what is proved of each function, and what is assumed, see docs/CONTRACTS.md.
  *
  * A file is at most LADDERTICK_LONGEST bytes.
@@ -80,6 +80,8 @@ enum {
     LADDERTICK_NO_SUCH_LABEL = 21,     /* a number past the list, or an entry that yields no label, when it is opened */
     /* The host; the place is 0: */
     LADDERTICK_RECTANGLE_TURNED = 22,  /* a rectangle whose far corner is below its near one on either axis */
+    /* The host; the place is its number in the label, 0 if alone: */
+    LADDERTICK_NOT_READABLE = 23,      /* an element that no single line or block, read at reference 0,0, yields, when it is written */
     /* The author of the label, in a conversion to 300 dots an inch alone; the place is the first byte of the refused line, its blanks included: */
     LADDERTICK_GRAPHIC_IN_LABEL = 24,  /* a label with a graphic; the line is that of its first block */
     /* The host; the place is the joined length: */
@@ -377,6 +379,28 @@ typedef struct laddertick_label {
    another length), at the first line that has one; 15, the place is the element count. */
 laddertick_label laddertick_to_300(const uint8_t *input, size_t input_len, const laddertick_entry *entries, size_t entries_len, size_t number,
                                    laddertick_element_300 *list, size_t list_len);
+
+/* ---- writing EPL ---- */
+
+/* One element as its command and an LF, from the start of out. `element` is one that a step answered, or one that a host made: any bytes may stand in any of its fields.
+   Its data is written as it stands in input. number 0: `place` bytes are written, and bytes past them keep their values. Else a refusal, and out is as it came; to learn
+   the length lend 0 bytes, and 15 gives it. Read again, what was written yields an equal element, its data compared by bytes, wherever it stands in the text.
+   Each element has one spelling (docs/SCOPE.md, "Writing EPL"): a black box is LO where its thickness is the smaller side and both sides are at least 1, else X; Code 128 in mode
+   Automatic has type 1.
+   Refusals, in this order: 14; 23, place 0, an element that no single line or block, read at reference 0,0, yields, as a box for X whose far corner is outside 32 bits, a
+   negative width, data that is empty or outside input, a flag other than 0 and 1, a kind that is none, a field that is none of its kind's and not 0, a size or ratio
+   that is not its kind's own; 15. Neither input nor element may overlap out. */
+laddertick_written laddertick_write(const uint8_t *input, size_t input_len, laddertick_element element, uint8_t *out, size_t out_len);
+
+/* A label: N, its elements, each as laddertick_write has it, and its print line `Psets,copies`. Read again, the text is one label with equal elements and these counts.
+   Refusals, in this order: 14; 23, the place is the number of the first element, from 0, that laddertick_write refuses so; 23, the place is elements_len, a label with no
+   element, more than 16,777,216 elements or a negative count; 15. */
+laddertick_written laddertick_write_label(const uint8_t *input, size_t input_len, const laddertick_element *elements, size_t elements_len, int32_t sets, int32_t copies,
+                                          uint8_t *out, size_t out_len);
+
+/* The same of a label for 300 dots an inch, as laddertick_to_300 makes it: the numbers written are the new printer's dots. */
+laddertick_written laddertick_write_label_300(const uint8_t *input, size_t input_len, const laddertick_element_300 *elements, size_t elements_len, int32_t sets,
+                                              int32_t copies, uint8_t *out, size_t out_len);
 
 #ifdef __cplusplus
 }

@@ -180,16 +180,21 @@ static inline void json_refusal(const char *name, bytes input, unsigned number, 
     }
 }
 
-/* The refusal in words; where it is that of a line, with the number of the line, its place as the library gives it and the line's text. */
+/* The line that begins at a place: its number, the place as the library gives it, and its text. */
+static inline void put_line(bytes input, size_t place, lines *l)
+{
+    fprintf(stderr, "  line %zu, offset %zu (from 0): ", line_of(l, input, place), place);
+    put_quoted(stderr, input, place, end_of_line(input, place) - place, 60);
+    fputc('\n', stderr);
+}
+
+/* The refusal in words, with its line where it is that of one. */
 static inline void put_refusal(const char *name, bytes input, unsigned number, size_t place, lines *l)
 {
     put_complaint(name);
     fprintf(stderr, "refused (%u): %s\n", number, laddertick_meaning(number));
-    if (LADDERTICK_IS_OF_LINE(number)) {
-        fprintf(stderr, "  line %zu, offset %zu (from 0): ", line_of(l, input, place), place);
-        put_quoted(stderr, input, place, end_of_line(input, place) - place, 60);
-        fputc('\n', stderr);
-    }
+    if (LADDERTICK_IS_OF_LINE(number))
+        put_line(input, place, l);
 }
 
 /* That the reading goes on, and where. */

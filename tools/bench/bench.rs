@@ -3,7 +3,8 @@
 //!     bench times                     a table of nanoseconds a byte, and the targets
 //!     bench one FUNCTION KIND SIZE    one call of one function, for valgrind
 //!     bench index                     the index and opening alone
-//!     bench open first|last SIZE      one label opened, the first or the last of a file, for valgrind
+//!     bench write                     writing, and what is done with one label, alone
+//!     bench label FUNCTION first|last|whole SIZE    one function over one label, the first or the last of a file, or a whole file, for valgrind
 
 mod inputs;
 mod library;
@@ -36,8 +37,10 @@ const CHECK: Function = Function { name: "check", call: |input, _| library::chec
 const INDEX: Function = Function { name: "index", call: |input, out| library::index(input, out) };
 const JOIN: Function = Function { name: "join", call: |input, out| library::join(input, out) };
 const PARTS: Function = Function { name: "parts", call: |input, out| library::parts(input, out) };
+const WRITE: Function = Function { name: "write", call: |input, out| library::write(input, out) };
+const REWRITE: Function = Function { name: "rewrite", call: |input, out| library::rewrite(input, out) };
 const COPY: Function = Function { name: "copy", call: |input, out| copy(input, out) };
-const FUNCTIONS: [&Function; 9] = [&WALK, &PARSE, &NORMALISE, &FORMAT, &CHECK, &INDEX, &JOIN, &PARTS, &COPY];
+const FUNCTIONS: [&Function; 11] = [&WALK, &PARSE, &NORMALISE, &FORMAT, &CHECK, &INDEX, &JOIN, &PARTS, &WRITE, &REWRITE, &COPY];
 
 fn copy(input: &[u8], out: &mut [u8]) -> usize {
     out[..input.len()].copy_from_slice(input);
@@ -51,7 +54,7 @@ fn measured(call: &dyn Fn(&[u8], &mut [u8]) -> usize, input: &[u8], out: &mut [u
     call(black_box(input), black_box(out))
 }
 
-/// Room for any normalised text, also of a file joined with itself.
+/// Room for any normalised text, also of a file joined with itself, and for the files of the benchmark written anew.
 fn room(size: usize) -> usize {
     2 * (size + size / 6 + 1) + 2
 }
@@ -136,12 +139,19 @@ const READINGS: [&str; 3] = ["emptied", "sixteen files", "again"];
 fn growth(function: &Function, kind: &Kind) -> [f64; READINGS.len()] {
     let (small, large) = (made(kind, MIB), made(kind, 16 * MIB));
     let sixteen = Memory::holding(&small.repeat(16));
-    let times = |jobs| {
-        let [one, sixteen] = times_of(5, jobs);
-        16.0 * sixteen / one
-    };
-    let again = |caches| times([&small, &large].map(|file| Job::new(function, file).over_16_mib(caches)));
-    [again(Caches::Emptied), times([Job::in_a_row(function, &sixteen, MIB), Job::new(function, &large)]), again(Caches::Left)]
+    let again = |caches| times_more([&small, &large].map(|file| Job::new(function, file).over_16_mib(caches)));
+    [again(Caches::Emptied), times_more([Job::in_a_row(function, &sixteen, MIB), Job::new(function, &large)]), again(Caches::Left)]
+}
+
+/// The first of these readings alone.
+fn emptied(function: &Function, kind: &Kind) -> f64 {
+    times_more([MIB, 16 * MIB].map(|size| made(kind, size)).each_ref().map(|file| Job::new(function, file).over_16_mib(Caches::Emptied)))
+}
+
+/// How many times the time of the first the second takes, by its bytes 16 times as long.
+fn times_more(jobs: [Job; 2]) -> f64 {
+    let [one, sixteen] = times_of(5, jobs);
+    16.0 * sixteen / one
 }
 
 fn made(kind: &Kind, size: usize) -> Memory {
@@ -235,51 +245,140 @@ fn indexed() -> f64 {
     on_labels
 }
 
-/// A file of one label again and again, its entries, and a number.
+/// Writing beside the walk, of which each has one inside. Gives the greatest growth from 1 to 16 MiB.
+fn written() -> f64 {
+    println!("\nEach element written alone, and each label anew, beside the walk, nanoseconds a byte of the file that is read\n");
+    println!("| input | size | write | rewrite | walk | write, times the walk | rewrite, times the walk |");
+    println!("|---|---|---|---|---|---|---|");
+    let read: Vec<&Kind> = KINDS.iter().filter(|kind| !kind.name.starts_with("refused")).collect();
+    for kind in &read {
+        for size in SIZES {
+            let input = made(kind, size);
+            let [write, rewrite, walk] = times_of(1, [&WRITE, &REWRITE, &WALK].map(|function| Job::new(function, &input)));
+            let (anew, beside) = if library::entries(&input).is_empty() {
+                ("no label".to_string(), String::new())
+            } else {
+                (format!("{rewrite:.3}"), format!("{:.1}", rewrite / walk))
+            };
+            println!("| {} | {} | {write:.3} | {anew} | {walk:.3} | {:.1} | {beside} |", kind.name, size_name(size), write / walk);
+        }
+    }
+    println!("\nWriting, 16 MiB, times the time of 1 MiB, emptied\n");
+    println!("| input | write | rewrite |");
+    println!("|---|---|---|");
+    let mut most: f64 = 0.0;
+    for kind in read {
+        let [write, rewrite] = [&WRITE, &REWRITE].map(|function| emptied(function, kind));
+        println!("| {} | {write:.1} | {rewrite:.1} |", kind.name);
+        most = most.max(write).max(rewrite);
+    }
+    most
+}
+
+/// One label of a file, and all that a call with it is lent.
 struct Opened {
     file: Memory,
     entries: Vec<raw::Entry>,
     number: usize,
+    numbers: Vec<usize>,
+    elements: Vec<raw::Element>,
+    elements_300: Vec<raw::Element300>,
+    sets: i32,
+    copies: i32,
 }
 
+/// What is done with one label.
+const WITH_ONE: [&str; 6] = ["open", "inside", "touching", "nearest", "to_300", "write_label"];
+
+/// Where it is looked for: a corner of the printer's paper, in which about half of the labels' elements lie.
+const CORNER: raw::Rectangle = raw::Rectangle { x1: 0, y1: 0, x2: 350, y2: 600 };
+
 impl Opened {
+    /// The first or the last label of a file of one label again and again.
     fn new(size: usize, last: bool) -> Opened {
-        let file = Memory::holding(&inputs::same_label(size));
-        let entries = library::entries(&file);
-        let number = if last { entries.len() - 1 } else { 0 };
-        Opened { file, entries, number }
+        Opened::of(&inputs::same_label(size), last)
     }
 
-    fn open(&self, out: &mut [u8]) -> usize {
-        measured(&|input, out| library::open(input, &self.entries, self.number, out), &self.file, out)
+    fn of(file: &[u8], last: bool) -> Opened {
+        let file = Memory::holding(file);
+        let entries = library::entries(&file);
+        let number = if last { entries.len() - 1 } else { 0 };
+        let (elements, sets, copies) = library::elements(&file, entries[number]);
+        let count = elements.len();
+        Opened { file, entries, number, numbers: vec![0; count], elements, elements_300: vec![Default::default(); count], sets, copies }
+    }
+
+    /// One call of a function of WITH_ONE.
+    fn call(&mut self, function: &str, out: &mut [u8]) -> usize {
+        let Opened { file, entries, number, numbers, elements, elements_300, sets, copies } = self;
+        let (entries, number) = (&entries[..], *number);
+        let written = |w: raw::Written| {
+            assert_eq!(w.number, 0);
+            w.place
+        };
+        // The function is told before what is measured begins.
+        match function {
+            "open" => measured(&|input, out| library::open(input, entries, number, out), file, out),
+            "inside" => measured_list(&mut |input| written(raw::inside(input, entries, number, CORNER, numbers)), file),
+            "touching" => measured_list(&mut |input| written(raw::touching(input, entries, number, CORNER, numbers)), file),
+            "nearest" => measured_list(&mut |input| written(raw::nearest(input, entries, number, 300, 100)), file),
+            "to_300" => measured_list(&mut |input| raw::to_300(input, entries, number, elements_300).place, file),
+            "write_label" => measured(&|input, out| written(raw::write_label(input, elements, *sets, *copies, out)), file, out),
+            _ => usage(),
+        }
     }
 
     /// Nanoseconds of one call, the best of many runs of many.
-    fn nanoseconds(&self, out: &mut [u8]) -> f64 {
-        const CALLS: u32 = 1_000;
-        let run = || {
+    fn nanoseconds(&mut self, function: &str, out: &mut [u8]) -> f64 {
+        // A run has as many calls as make half a mebibyte, one at least.
+        let calls = (MIB / 2 / (self.entries[self.number].last - self.entries[self.number].first)).max(1) as u32;
+        let (begun, mut best) = (Instant::now(), Duration::MAX);
+        for run in 0..200 {
             let start = Instant::now();
-            for _ in 0..CALLS {
-                black_box(self.open(out));
+            for _ in 0..calls {
+                black_box(self.call(function, out));
             }
-            start.elapsed()
-        };
-        std::iter::repeat_with(run).take(200).min().unwrap().as_nanos() as f64 / CALLS as f64
+            best = best.min(start.elapsed());
+            if run >= 4 && begun.elapsed() > Duration::from_secs(2) {
+                break;
+            }
+        }
+        best.as_nanos() as f64 / calls as f64
     }
+}
+
+/// One call with a list of its own, under the name that valgrind is told to count.
+fn measured_list(call: &mut dyn FnMut(&[u8]) -> usize, input: &[u8]) -> usize {
+    let call = std::cell::RefCell::new(call);
+    measured(&|input, _| (call.borrow_mut())(input), input, &mut [])
 }
 
 /// One label opened, from the beginning of a short file and from the end of a long one. Gives how many times as long the second takes.
 fn opening() -> f64 {
     let mut out = vec![0; 4 * KIB];
-    println!("\nOne label opened, nanoseconds a call\n");
-    println!("| label | open |");
-    println!("|---|---|");
+    println!("\nOne label, nanoseconds a call\n");
+    println!("| label | {} |", WITH_ONE.join(" | "));
+    println!("|---|---|---|---|---|---|---|");
     let [first, last] = [(64 * KIB, false), (16 * MIB, true)].map(|(size, last)| {
-        let time = Opened::new(size, last).nanoseconds(&mut out);
-        println!("| the {} of {} | {time:.0} |", if last { "last" } else { "first" }, size_name(size));
-        time
+        let mut opened = Opened::new(size, last);
+        let times = WITH_ONE.map(|function| opened.nanoseconds(function, &mut out));
+        println!("| the {} of {} | {} |", if last { "last" } else { "first" }, size_name(size), times.map(|time| format!("{time:.0}")).join(" | "));
+        times
     });
-    last / first
+    std::iter::zip(first, last).map(|(first, last)| last / first).fold(0.0, f64::max)
+}
+
+/// A file that is one label.
+fn one_label() {
+    println!("\nA file that is one label, nanoseconds a byte\n");
+    println!("| size | {} |", WITH_ONE.join(" | "));
+    println!("|---|---|---|---|---|---|---|");
+    for size in SIZES {
+        let mut opened = Opened::of(&inputs::one_label(size), false);
+        // A listing has more bytes than its file.
+        let mut out = Memory::new(16 * size);
+        println!("| {} | {} |", size_name(size), WITH_ONE.map(|function| format!("{:.3}", opened.nanoseconds(function, &mut out) / size as f64)).join(" | "));
+    }
 }
 
 fn times() {
@@ -307,6 +406,7 @@ fn times() {
         strict = strict.max(check / walk);
     }
     let (index, open) = (indexed(), opening());
+    one_label();
     println!("\nA file joined with itself beside both walks and both normalisings, nanoseconds a byte of the file\n");
     println!("| input | join | parts | times the parts |");
     println!("|---|---|---|---|");
@@ -317,6 +417,7 @@ fn times() {
         println!("| {} | {join:.3} | {parts:.3} | {:.1} |", kind.name, join / parts);
         joined = joined.max(join / parts);
     }
+    let written = written();
     let growths = grown();
     println!("\nTargets\n");
     let least = |rows: &[(f64, f64)]| rows.iter().map(|(mine, theirs)| theirs / mine).fold(f64::MAX, f64::min);
@@ -329,8 +430,9 @@ fn times() {
     target("normalise on graphics, times the time of a copy, at most 3", beside, |r| r <= 3.0);
     target("check on every input, times the time of the walk, at most 2.5", strict, |r| r <= 2.5);
     target("index of 16 MiB of labels, times the time of the walk, at most 1.3", index, |r| r <= 1.3);
-    target("open of the last label of 16 MiB, times that of the first of 64 KiB, at most 2", open, |r| r <= 2.0);
+    target("the last label of 16 MiB, opened, searched, converted or written, times the first of 64 KiB, at most 2", open, |r| r <= 2.0);
     target("join on every input, times the time of its parts, at most 2.2", joined, |r| r <= 2.2);
+    target("writing 16 MiB, times the time of 1 MiB, emptied, at most 18", written, |r| r <= 18.0);
     for (reading, most) in READINGS.iter().zip(growths) {
         target(&format!("16 MiB, times the time of 1 MiB, {reading}, at most 18"), most, |r| r <= 18.0);
     }
@@ -348,7 +450,7 @@ fn one(function: &str, kind: &str, size: &str) {
 }
 
 fn usage<T>() -> T {
-    eprintln!("usage: bench times | bench index | bench one FUNCTION KIND SIZE | bench open first|last SIZE");
+    eprintln!("usage: bench times | bench index | bench write | bench one FUNCTION KIND SIZE | bench label FUNCTION first|last|whole SIZE");
     exit(2)
 }
 
@@ -358,8 +460,17 @@ fn main() {
         ["times"] => times(),
         ["kinds"] => KINDS.iter().for_each(|kind| println!("{}", kind.name)),
         ["one", function, kind, size] => one(function, kind, size),
-        ["open", which, size] => drop(black_box(Opened::new(size.parse().unwrap_or_else(|_| usage()), which == "last").open(&mut vec![0; 4 * KIB]))),
+        ["label", function, which, size] => {
+            let size = size.parse().unwrap_or_else(|_| usage());
+            let mut opened = if which == "whole" { Opened::of(&inputs::one_label(size), false) } else { Opened::new(size, which == "last") };
+            black_box(opened.call(function, &mut vec![0; 16 * size]));
+        }
         ["index"] => drop((indexed(), opening())),
+        ["write"] => {
+            opening();
+            one_label();
+            written();
+        }
         _ => usage(),
     }
 }

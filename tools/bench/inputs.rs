@@ -41,6 +41,22 @@ pub fn same_label(size: usize) -> Vec<u8> {
     label(0).repeat(size / label(0).len())
 }
 
+/// One label that is a whole file: texts, lines and bar codes, and a print line at the end.
+pub fn one_label(size: usize) -> Vec<u8> {
+    let last = b"\nP1\n";
+    let mut input = filled(size - last.len(), |i| {
+        let (x, y) = (i % 700, i % 1_100);
+        format!(
+            "A{x},{y},0,2,1,1,N,\"Grey siltstone {i}\"\r\nLO{x},{y},380,2\r\nX{x},{y},3,{},{}\r\nB{x},{y},0,1,2,4,60,B,\"K07-{i:06}\"\r\n",
+            x + 100,
+            y + 90
+        )
+        .into_bytes()
+    });
+    input.extend(last);
+    input
+}
+
 /// Settings, a reference, texts, lines, a bar code.
 fn label(i: usize) -> Vec<u8> {
     let (from, to) = (i % 900, i % 900 + 1);

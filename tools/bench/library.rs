@@ -46,6 +46,61 @@ pub fn entries(input: &[u8]) -> Vec<raw::Entry> {
     entries
 }
 
+/// The elements of the label with this number, with its sets and copies, as a host walks them from its entry.
+pub fn elements(input: &[u8], entry: raw::Entry) -> (Vec<raw::Element>, i32, i32) {
+    let (mut walk, mut elements) = (raw::Walk { x: entry.x, y: entry.y, pending: 0, place: entry.first }, Vec::new());
+    loop {
+        let answer = raw::step(&input[..entry.last], walk);
+        match answer.kind {
+            1..=16 => elements.push(answer.element),
+            17 => elements.clear(),
+            kind => {
+                assert_eq!(kind, 0);
+                return (elements, answer.sets, answer.copies);
+            }
+        }
+        walk = answer.next;
+    }
+}
+
+/// Every element that the walk answers, written by itself, one behind the other. Gives how many bytes.
+pub fn write(input: &[u8], out: &mut [u8]) -> usize {
+    let (mut walk, mut at) = (raw::start(), 0);
+    loop {
+        let answer = raw::step(input, walk);
+        match answer.kind {
+            1..=16 => {
+                let written = raw::write(input, answer.element, &mut out[at..]);
+                assert_eq!(written.number, 0);
+                at += written.place;
+            }
+            18 | 255 => return at,
+            _ => {}
+        }
+        walk = answer.next;
+    }
+}
+
+/// A file written anew: its labels, each from its elements as they were walked. Gives how many bytes.
+pub fn rewrite(input: &[u8], out: &mut [u8]) -> usize {
+    let (mut walk, mut at, mut elements) = (raw::start(), 0, Vec::new());
+    loop {
+        let answer = raw::step(input, walk);
+        match answer.kind {
+            0 => {
+                let written = raw::write_label(input, &elements, answer.sets, answer.copies, &mut out[at..]);
+                assert_eq!(written.number, 0);
+                at += written.place;
+                elements.clear();
+            }
+            1..=16 => elements.push(answer.element),
+            17 => elements.clear(),
+            _ => return at,
+        }
+        walk = answer.next;
+    }
+}
+
 /// One label's lines.
 pub fn open(input: &[u8], entries: &[raw::Entry], number: usize, out: &mut [u8]) -> usize {
     let written = raw::open(input, entries, number, out);

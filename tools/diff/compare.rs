@@ -5,6 +5,7 @@ use crate::join;
 use crate::raw::{self, Joined, Written};
 use crate::steps;
 use crate::strict;
+use crate::writing;
 use oracle::{fields, Answer};
 
 /// A function that writes.
@@ -21,6 +22,13 @@ pub struct Seen {
     pub made: [usize; 4],
     /// Labels to 300 dots, by the answer: converted, 24, 13, 19, another refusal.
     pub turned: [usize; 5],
+    /// Elements, each by itself, by the answer: written, 23.
+    pub elements: [usize; 2],
+    /// Structs that a host made, likewise; and labels with one in them, at either resolution.
+    pub structs: [usize; 4],
+    /// Labels, likewise; and at 300 dots.
+    pub texts: [usize; 2],
+    pub texts_300: [usize; 2],
 }
 
 impl Seen {
@@ -96,8 +104,8 @@ impl Lent {
 
 /// Holds the library's answers against the Rust's: the listing's, the walk's and the normalised text's. The fields of frames that the Rust has not are left
 /// out before its listing is compared, and are then held to the definition. The normalised text of an accepted input is listed alike, and normalising it
-/// again changes nothing. The strict reading is held beside the plain one, the index of labels beside the units and the listing, and the input is joined to others. An error
-/// says in words what is wrong.
+/// again changes nothing. The strict reading is held beside the plain one, the index of labels beside the units and the listing, the input is joined to others, and
+/// its elements and labels are written anew and read again. An error says in words what is wrong.
 pub fn compare(lent: &mut Lent, input: &[u8], rust: &Answer) -> Result<Seen, String> {
     as_the_rust(lent, input, rust)?;
     let expected = &fields::told(input, rust);
@@ -112,6 +120,7 @@ pub fn compare(lent: &mut Lent, input: &[u8], rust: &Answer) -> Result<Seen, Str
         listed(lent, &raw::strict_list, input, expected).map_err(|wrong| format!("listing strictly, {wrong}"))?;
     }
     steps::walked(lent.place(input), expected).map_err(|wrong| format!("walking, {wrong}"))?;
+    writing::held(lent, input, expected, &mut seen).map_err(|wrong| format!("writing, {wrong}"))?;
     let joined = |lent: &mut Lent, text: &[u8]| join::joined(lent, input, expected, text).map_err(|wrong| format!("joining, {wrong}"));
     if input.len() > oracle::LIMIT {
         joined(lent, b"")?;

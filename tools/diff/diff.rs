@@ -12,6 +12,7 @@ mod raw;
 mod short;
 mod steps;
 mod strict;
+mod writing;
 
 use compare::{compare, Lent};
 use inputs::Maker;
@@ -55,6 +56,9 @@ fn main() {
     eprintln!("labels indexed and opened: {}; entries that no index made: {} opened, 16 {}, 21 {}, other refusals {}", count(&run.labels), opened[0], opened[1], opened[2], opened[3]);
     let turned = [0, 1, 2, 3, 4].map(|i| count(&run.turned[i]));
     eprintln!("labels to 300 dots: {} converted, 24 {}, 13 {}, 19 {}, other refusals {}", turned[0], turned[1], turned[2], turned[3], turned[4]);
+    let answered = |pair: &[AtomicUsize]| format!("{} written, 23 {}", count(&pair[0]), count(&pair[1]));
+    eprintln!("as EPL, read again by the Rust and by the steps: elements {}; labels {}; at 300 dots {}", answered(&run.elements), answered(&run.texts), answered(&run.texts_300));
+    eprintln!("structs that a host made: {}; labels with one in them {}", answered(&run.structs[..2]), answered(&run.structs[2..]));
     let (cases, differences, accepted) = (count(&run.cases), count(&run.differences), count(&run.accepted));
     let refused: usize = run.refused.iter().map(count).sum();
     let [position, size, kind, maxicode] = [0, 1, 2, 3].map(|i| count(&run.panics[i]));
@@ -92,6 +96,11 @@ struct Run {
     made: [AtomicUsize; 4],
     /// Labels to 300 dots, by the answer: converted, 24, 13, 19, another refusal.
     turned: [AtomicUsize; 5],
+    /// Elements that were written each by itself, structs that a host made and labels with one in them, labels, labels at 300 dots; each by the answer: written, 23.
+    elements: [AtomicUsize; 2],
+    structs: [AtomicUsize; 4],
+    texts: [AtomicUsize; 2],
+    texts_300: [AtomicUsize; 2],
     /// By cause: 13; 19; 7, 8 or 9; MaxiCode.
     panics: [AtomicUsize; 4],
 }
@@ -142,11 +151,16 @@ impl Run {
         if let Ok(seen) = &compared {
             self.checked[seen.verdict as usize].fetch_add(1, Relaxed);
             self.labels.fetch_add(seen.labels, Relaxed);
-            self.made.iter().zip(seen.made).for_each(|(counter, n)| {
-                counter.fetch_add(n, Relaxed);
-            });
-            self.turned.iter().zip(seen.turned).for_each(|(counter, n)| {
-                counter.fetch_add(n, Relaxed);
+            let counts: [(&[AtomicUsize], &[usize]); 6] = [
+                (&self.made, &seen.made),
+                (&self.turned, &seen.turned),
+                (&self.elements, &seen.elements),
+                (&self.structs, &seen.structs),
+                (&self.texts, &seen.texts),
+                (&self.texts_300, &seen.texts_300),
+            ];
+            counts.iter().flat_map(|(counters, counts)| counters.iter().zip(*counts)).for_each(|(counter, n)| {
+                counter.fetch_add(*n, Relaxed);
             });
         }
         if let Err(wrong) = compared {

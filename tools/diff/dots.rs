@@ -1,11 +1,12 @@
 //! A label from 203 to 300 dots, from what the steps answer: the numbers, the places of the refused lines and the order of the checks are told anew, apart from the library.
 
-use crate::compare::Lent;
+use crate::compare::{Lent, Seen};
 use crate::raw::{self, Dots300, Element, Element300, Entry, Label300, Walk};
+use crate::writing;
 
 /// Holds the conversion of an entry's label against what it should answer, with exactly enough room, with more and with less. `opened` is what opening the entry is refused by. An
-/// error says in words what is wrong. Gives the number of the answer, 0 where it converts.
-pub fn converted(lent: &mut Lent, input: &[u8], entries: &[Entry], number: usize, opened: Result<(), (u8, usize)>) -> Result<u32, String> {
+/// error says in words what is wrong. A label that converts is written as EPL too.
+pub fn converted(lent: &mut Lent, input: &[u8], entries: &[Entry], number: usize, opened: Result<(), (u8, usize)>, seen: &mut Seen) -> Result<(), String> {
     let due = opened.and_then(|()| {
         let e = &entries[number];
         label(&input[..e.last], Walk { x: e.x, y: e.y, pending: 0, place: e.first })
@@ -18,10 +19,13 @@ pub fn converted(lent: &mut Lent, input: &[u8], entries: &[Entry], number: usize
                 fills(lent, input, entries, number, room, done, elements)?;
             }
             fills(lent, input, entries, number, n - 1, Label300 { number: 15, place: n, ..Label300::default() }, &[])?;
+            let is_written = writing::label_300(lent, input, *sets, *copies, elements).map_err(|wrong| format!("writing at 300 dots, {wrong}"))?;
+            seen.texts_300[!is_written as usize] += 1;
         }
         Err((k, place)) => fills(lent, input, entries, number, 2, Label300 { number: *k as u32, place: *place, ..Label300::default() }, &[])?,
     }
-    Ok(due.err().map_or(0, |(k, _)| k as u32))
+    seen.convert(due.err().map_or(0, |(k, _)| k as u32));
+    Ok(())
 }
 
 /// The library answers as expected, fills the list from its start, and changes no other element.

@@ -82,7 +82,7 @@ fn opened(lent: &mut Lent, input: &[u8], entries: &[Entry], listing: &str, rng: 
         written(lent, &open, &copy, labels[number].as_bytes()).map_err(|wrong| format!("label {number} with other bytes around it, {wrong}"))?;
     }
     for number in 0..entries.len() {
-        seen.convert(dots::converted(lent, input, entries, number, Ok(()))?);
+        dots::converted(lent, input, entries, number, Ok(()), seen)?;
     }
     for number in [entries.len(), usize::MAX] {
         refused(lent, &|input: &[u8], out: &mut [u8]| raw::open(input, entries, number, out), input, 21, number)?;
@@ -125,8 +125,7 @@ fn made(lent: &mut Lent, input: &[u8], places: &[usize], rng: &mut Rng, seen: &m
         Err((21, _)) => 2,
         Err(_) => 3,
     }] += 1;
-    held.and_then(|()| dots::converted(lent, input, &entries, number, due.map(|_| ())))
-        .map(|k| seen.convert(k))
+    held.and_then(|()| dots::converted(lent, input, &entries, number, due.map(|_| ()), seen))
         .map_err(|wrong| format!("number {number} of {entries:?}, {wrong}"))
 }
 
@@ -145,20 +144,20 @@ fn entry(len: usize, places: &[usize], rng: &mut Rng) -> Entry {
 }
 
 /// Choices that hang on the input alone, so that an input cut down is held in the same way whenever it comes.
-struct Rng(u64);
+pub struct Rng(u64);
 
 impl Rng {
-    fn of(input: &[u8]) -> Rng {
+    pub fn of(input: &[u8]) -> Rng {
         let few = input.iter().take(64).chain(input.iter().rev().take(64));
         Rng(few.fold(0xcbf2_9ce4_8422_2325 ^ input.len() as u64, |hash, &b| (hash ^ b as u64).wrapping_mul(0x100_0000_01b3)))
     }
 
-    fn next(&mut self) -> u64 {
+    pub fn next(&mut self) -> u64 {
         self.0 = self.0.wrapping_mul(6_364_136_223_846_793_005).wrapping_add(1_442_695_040_888_963_407);
         self.0 >> 32
     }
 
-    fn below(&mut self, n: usize) -> usize {
+    pub fn below(&mut self, n: usize) -> usize {
         self.next() as usize % n
     }
 }

@@ -87,7 +87,7 @@ pub fn first_label(input: &[u8], mut walk: Walk) -> Result<String, Option<(u8, u
 
 /// The frame of an element (docs/FRAMES.md). The fields that it has are taken out of e, so that those of other kinds
 /// stay behind; a kind that is none takes nothing but its head.
-fn frame(input: &[u8], e: &mut Element) -> Vec<u8> {
+pub fn frame(input: &[u8], e: &mut Element) -> Vec<u8> {
     let kind = take(&mut e.kind);
     let mut f = vec![kind];
     numbers(&mut f, [&mut e.x, &mut e.y]);
@@ -173,7 +173,7 @@ fn number(value: i32) -> [u8; 4] {
 }
 
 /// A frame as a line of a listing.
-fn put_line(listing: &mut String, frame: &[u8]) {
+pub fn put_line(listing: &mut String, frame: &[u8]) {
     const DIGITS: &[u8; 16] = b"0123456789abcdef";
     listing.extend(frame.iter().flat_map(|b| [b >> 4, b & 15]).map(|digit| DIGITS[digit as usize] as char));
     listing.push('\n');

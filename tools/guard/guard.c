@@ -6,7 +6,7 @@
  * CASES is a file of inputs (each its length, 4 bytes with the most significant first, and its bytes: crates/replay/stdin). Each input, as it stands and in
  * ROUNDS damaged copies, goes to every entry point: once with its first byte behind a guard page, once with its last byte before one, and not writable.
  * Buffers likewise, with room to spare, with just enough and with one byte less; lists of entries with one to spare, just enough and one less; and NULL of length 0 for
- * each. Calls run on a stack of LADDERTICK_STACK bytes between guard pages, one page.
+ * each. Elements are lent to be written as they were answered, and with any bytes in any of their fields (writing.h). Calls run on a stack of LADDERTICK_STACK bytes between guard pages, one page.
  * Held as well: a refused call leaves the buffer as it came, bytes past the written length keep their values, and both placements are answered alike.
  */
 #define _GNU_SOURCE
@@ -167,10 +167,12 @@ static uint64_t next(void)
     return seed;
 }
 
-/* Room to spare for any answer to this input: a listing has at most 16 bytes a byte. */
+/* Room to spare: for any answer to this input, a listing having at most 16 bytes a byte; or where it is not 0 so much. */
+static size_t answer_most;
+
 static size_t spare(void)
 {
-    return LADDERTICK_LIST_ROOM(input_len) + 64;
+    return answer_most != 0 ? answer_most : LADDERTICK_LIST_ROOM(input_len) + 64;
 }
 
 /* The bytes of n that are no mark. */
@@ -240,6 +242,8 @@ static laddertick_written within(laddertick_written w, size_t room)
     return w;
 }
 
+#include "writing.h"
+
 static int same(laddertick_walk a, laddertick_walk b)
 {
     return a.place == b.place && a.x == b.x && a.y == b.y && a.pending == b.pending;
@@ -250,6 +254,7 @@ static uint64_t walks(int last, size_t *labels)
 {
     uint64_t sum = 0;
     *labels = 0;
+    kept_count = 0;
     walk = laddertick_start();
     do {
         call("laddertick_step", do_step);
@@ -265,6 +270,8 @@ static uint64_t walks(int last, size_t *labels)
             wrong("data outside the input");
         if (len > 0)
             within(writes("laddertick_data", do_data, last), LADDERTICK_DATA_ROOM(len));
+        if (answer.element.kind != 0)
+            sum = sum * 31 + writes_step(answer.element, last);
         *labels += answer.kind == LADDERTICK_PRINT;
         walk = answer.next;
     } while (answer.kind != LADDERTICK_END && answer.kind != LADDERTICK_REFUSED);
@@ -350,6 +357,8 @@ static void converts(size_t i, int last, laddertick_written opened)
             if (elements[k].kind < 1 || elements[k].kind > 16 || elements[k].kind == 4 || elements[k].data_start > input_len ||
                 elements[k].data_len > input_len - elements[k].data_start)
                 wrong("an element that no label yields");
+        if (due && room == n)
+            writes_300(last);
     }
 }
 
@@ -443,6 +452,7 @@ static uint64_t indexed(int last, laddertick_written plain, size_t labels)
         if (w.number != 0)
             wrong("an entry of the index is refused");
         lies(i, last, w);
+        writes_entry(entries[i], last);
         if (i > 0 && entries[i].first < entries[i - 1].last)
             wrong("an entry that begins before the one before it ends");
         sum += w.place;
@@ -533,6 +543,8 @@ static void hold(const uint8_t *bytes, size_t n)
         sums[last] = sums[last] * 31 + checks(last, listing);
         sums[last] = sums[last] * 31 + indexed(last, listing, labels);
         made(last);
+        for (int k = 0; k < 4; k++)
+            stranges(last);
         sums[last] = sums[last] * 31 + joins(last, listing);
     }
     doing = "both placements";
@@ -554,6 +566,7 @@ static void hold_null(void)
     checks(0, listing);
     indexed(0, listing, labels);
     made(0);
+    stranges(0);
     joins(0, listing);
     writes("laddertick_normalise", do_normalise, 0);
     states();
@@ -602,6 +615,7 @@ int main(int argc, char **argv)
     seconds = map(sizeof bytes);
     outs = map(LADDERTICK_LIST_ROOM(sizeof bytes));
     drawn = map(sizeof bytes * sizeof *elements / 4);
+    plain_list = map(sizeof bytes * sizeof *drawing / 4);
     lists = map(sizeof bytes * sizeof *entries / 4); /* an element and its print line have more than four bytes */
     stack = map(LADDERTICK_STACK - PAGE);
     memset(stack.at, 0xa5, stack.len);
@@ -629,7 +643,10 @@ int main(int argc, char **argv)
         if (n > most)
             most = n;
     }
+    many();
     printf("%zu inputs of up to %zu bytes, each with %zu damaged copies: %zu calls, none outside what was lent; deepest stack %zu bytes\n", now_case, most, rounds,
            calls, deepest());
+    printf("%zu elements and %zu labels written and read again; of %zu elements made by chance %zu were written, and the others refused\n", elements_written, labels_written, strange_made,
+           strange_written);
     return 0;
 }

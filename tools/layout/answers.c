@@ -1,7 +1,7 @@
 /*
  * One step over each kind of answer, with values that are all different, and every field of the answer by its name: a number that came back in another's
- * place would be seen. The values are 01's for the line (docs/FRAMES.md); a field that is not named here must be 0. Then the calls that write, and what a
- * host may lend at its barest.
+ * place would be seen. The values are 01's for the line (docs/FRAMES.md); a field that is not named here must be 0. Then the calls that write, the same elements lent
+ * to be written, with each of their fields changed, and what a host may lend at its barest.
  */
 #include <stdio.h>
 #include <string.h>
@@ -57,7 +57,7 @@ static const one CASES[] = {
 };
 
 static int wrong;
-static size_t looked_at;
+static size_t looked_at, changed_in;
 
 /* A number of the answer and the one that is due. */
 static void number(const char *what, const char *field, double got, double due)
@@ -321,6 +321,109 @@ static void converts(void)
     label("to_300 of NULL", laddertick_to_300(NULL, 0, NULL, 0, 3, NULL, 0), (laddertick_label){.number = 21, .place = 3});
 }
 
+/* The elements of CASES as they are written, in the same order. */
+static const char *const SPELLED[] = {
+    "A101,202,3,4,5,6,R,\"seven77\"\n",
+    "LW101,202,4,3\n",
+    "LE101,202,4,3\n",
+    "X101,202,7,131,242\n",
+    "LS101,202,7,131,242\n",
+    "GW105,206,3,2,abcdef\n",
+    "B101,202,2,1E,4,2,6,B,\"hello\"\n",
+    "B101,202,3,E30,4,2,6,B,\"hello\"\n",
+    "B101,202,3,E80,4,2,6,B,\"hello\"\n",
+    "B101,202,3,UA0,4,2,6,B,\"hello\"\n",
+    "B101,202,3,2C,4,10,6,N,\"hello\"\n",
+    "B101,202,3,3,4,14,6,B,\"hello\"\n",
+    "b101,202,P,o3,x8,y17,l5,r6,t1,s4,\"seven77\"\n",
+    "b101,202,A,d44,e99,\"hello\"\n",
+    "b101,202,D,h6,c4,r7,\"hello\"\n",
+    "b101,202,Q,s44,eH,\"hello\"\n",
+    "b101,202,M,m3,\"hello\"\n",
+    "B101,202,3,UE0,4,2,6,B,\"hello\"\n",
+};
+enum { SPELLINGS = sizeof SPELLED / sizeof SPELLED[0] };
+
+/* An element that differs in one field is written otherwise, or refused: no field goes unread. */
+static void read_whole(const char *line, laddertick_element e)
+{
+    uint8_t out[128], other[128];
+    laddertick_written due = laddertick_write(input, input_len, e, out, sizeof out);
+#define F(field)                                                                                                                                                          \
+    {                                                                                                                                                                     \
+        laddertick_element changed = e;                                                                                                                                   \
+        changed.field += 1;                                                                                                                                               \
+        changed_in++;                                                                                                                                                     \
+        laddertick_written w = laddertick_write(input, input_len, changed, other, sizeof other);                                                                          \
+        if (w.number != 23 && (w.number != 0 || (w.place == due.place && memcmp(out, other, w.place) == 0))) {                                                            \
+            printf("layout: %.*s: written the same with another %s\n", (int)strcspn(line, "\n"), line, #field);                                                           \
+            wrong = 1;                                                                                                                                                    \
+        }                                                                                                                                                                 \
+    }
+    FIELDS_laddertick_element(F)
+#undef F
+}
+
+/* Each element as its command, and all of them as a label, at both resolutions: each field of the structs lent is found where it stands. */
+static void elements_written(void)
+{
+    static char text[2048];
+    static uint8_t out[2048];
+    laddertick_element elements[SPELLINGS];
+    laddertick_element_300 elements_300[SPELLINGS];
+    char label_text[1024] = "N\n";
+    size_t n;
+    input = (const uint8_t *)text;
+    input_len = 0;
+    for (size_t i = 0; i < SPELLINGS; i++) {
+        laddertick_element e = CASES[i].answer.element;
+        if (e.data_len > 0)
+            e.data_start = input_len + e.data_start - 29; /* where it stands when the lines stand in a row */
+        input_len += (size_t)snprintf(text + input_len, sizeof text - input_len, "%s", CASES[i].line);
+        elements[i] = e;
+#define F(field) elements_300[i].field = e.field;
+        FIELDS_laddertick_element(F)
+#undef F
+        strcat(label_text, SPELLED[i]);
+    }
+    strcat(label_text, "P5,6\n");
+    n = strlen(label_text);
+    for (size_t i = 0; i < SPELLINGS; i++) {
+        size_t len = strlen(SPELLED[i]);
+        written(SPELLED[i], laddertick_write(input, input_len, elements[i], out, len - 1), (laddertick_written){15, len});
+        memset(out, '.', sizeof out);
+        written(SPELLED[i], laddertick_write(input, input_len, elements[i], out, len), (laddertick_written){0, len});
+        bytes(SPELLED[i], out, SPELLED[i], len);
+        bytes("the byte behind it", out + len, ".", 1);
+        read_whole(SPELLED[i], elements[i]);
+    }
+    written("write_label, one byte less", laddertick_write_label(input, input_len, elements, SPELLINGS, 5, 6, out, n - 1), (laddertick_written){15, n});
+    written("write_label", laddertick_write_label(input, input_len, elements, SPELLINGS, 5, 6, out, n), (laddertick_written){0, n});
+    bytes("write_label", out, label_text, n);
+    memset(out, '.', sizeof out);
+    written("write_label_300, one byte less", laddertick_write_label_300(input, input_len, elements_300, SPELLINGS, 5, 6, out, n - 1), (laddertick_written){15, n});
+    bytes("write_label_300 at 15", out, "....", 4);
+    written("write_label_300", laddertick_write_label_300(input, input_len, elements_300, SPELLINGS, 5, 6, out, n), (laddertick_written){0, n});
+    bytes("write_label_300", out, label_text, n);
+    /* refusals: an element's before the label's own, and 23 before 15 */
+    elements[7].level = 'M';
+    elements_300[9].columns = 1;
+    written("write of a field that is none of its kind", laddertick_write(input, input_len, elements[7], out, 0), (laddertick_written){23, 0});
+    written("write_label of such an element", laddertick_write_label(input, input_len, elements, SPELLINGS, -1, 6, out, 0), (laddertick_written){23, 7});
+    written("write_label_300 of such an element", laddertick_write_label_300(input, input_len, elements_300, SPELLINGS, 5, -1, out, 0), (laddertick_written){23, 9});
+    written("write_label, negative sets", laddertick_write_label(input, input_len, elements, 4, -1, 6, out, 0), (laddertick_written){23, 4});
+    written("write_label_300, negative copies", laddertick_write_label_300(input, input_len, elements_300, 3, 5, -1, out, 0), (laddertick_written){23, 3});
+    written("write_label of no element", laddertick_write_label(input, input_len, NULL, 0, 5, 6, out, sizeof out), (laddertick_written){23, 0});
+    written("write_label_300 of no element", laddertick_write_label_300(input, input_len, NULL, 0, 5, 6, out, sizeof out), (laddertick_written){23, 0});
+    written("write, data past the end", laddertick_write(input, elements[0].data_start + 6, elements[0], out, sizeof out), (laddertick_written){23, 0});
+    written("write, data to the end", laddertick_write(input, elements[0].data_start + 7, elements[0], out, sizeof out), (laddertick_written){0, strlen(SPELLED[0])});
+    /* NULL of length 0: an element without data needs no input, and 15 no buffer */
+    written("write of NULL into NULL", laddertick_write(NULL, 0, elements[1], NULL, 0), (laddertick_written){15, strlen(SPELLED[1])});
+    written("write of NULL", laddertick_write(NULL, 0, elements[1], out, sizeof out), (laddertick_written){0, strlen(SPELLED[1])});
+    written("write_label of NULL into NULL", laddertick_write_label(NULL, 0, elements + 1, 1, 0, 0, NULL, 0), (laddertick_written){15, 2 + strlen(SPELLED[1]) + 5});
+    written("write_label_300 of NULL into NULL", laddertick_write_label_300(NULL, 0, NULL, 0, 0, 0, NULL, 0), (laddertick_written){23, 0});
+}
+
 /* NULL of length 0, for an input and for a buffer: an empty file, and no room. */
 static void null(void)
 {
@@ -359,7 +462,9 @@ int main(void)
     joins();
     spots();
     converts();
+    elements_written();
     null();
-    printf("layout: %zu answers of a step, every field of each: %s\n", looked_at, wrong ? "some are wrong" : "all as 01 says");
+    printf("layout: %zu answers of a step, every field of each, and %d elements written, with each of their fields changed (%zu): %s\n", looked_at, SPELLINGS, changed_in,
+           wrong ? "some are wrong" : "all as 01 says");
     return wrong;
 }

@@ -153,6 +153,43 @@ define void @laddertick_to_300(ptr noalias sret([24 x i8]) align 8 %to, ptr %inp
   ret void
 }
 
+define %written @laddertick_write(ptr %input, i64 %len, ptr byval([120 x i8]) align 8 %element, ptr %out, i64 %out_len) {
+  %s = alloca %slice, align 8
+  %o = alloca %slice, align 8
+  %w = alloca %written, align 8
+  call void @slice_of(ptr %s, ptr %input, i64 %len)
+  call void @slice_of(ptr %o, ptr %out, i64 %out_len)
+  call void @inner_write(ptr %w, ptr %s, ptr %element, ptr %o)
+  %r = load %written, ptr %w, align 8
+  ret %written %r
+}
+
+define %written @laddertick_write_label(ptr %input, i64 %len, ptr %elements, i64 %elements_len, i32 %sets, i32 %copies, ptr %out, i64 %out_len) {
+  %s = alloca %slice, align 8
+  %e = alloca %slice, align 8
+  %o = alloca %slice, align 8
+  %w = alloca %written, align 8
+  call void @slice_of(ptr %s, ptr %input, i64 %len)
+  call void @slice_of(ptr %e, ptr %elements, i64 %elements_len)
+  call void @slice_of(ptr %o, ptr %out, i64 %out_len)
+  call void @inner_write_label(ptr %w, ptr %s, ptr %e, i32 %sets, i32 %copies, ptr %o)
+  %r = load %written, ptr %w, align 8
+  ret %written %r
+}
+
+define %written @laddertick_write_label_300(ptr %input, i64 %len, ptr %elements, i64 %elements_len, i32 %sets, i32 %copies, ptr %out, i64 %out_len) {
+  %s = alloca %slice, align 8
+  %e = alloca %slice, align 8
+  %o = alloca %slice, align 8
+  %w = alloca %written, align 8
+  call void @slice_of(ptr %s, ptr %input, i64 %len)
+  call void @slice_of(ptr %e, ptr %elements, i64 %elements_len)
+  call void @slice_of(ptr %o, ptr %out, i64 %out_len)
+  call void @inner_write_label_300(ptr %w, ptr %s, ptr %e, i32 %sets, i32 %copies, ptr %o)
+  %r = load %written, ptr %w, align 8
+  ret %written %r
+}
+
 define internal void @slice_of(ptr %s, ptr %bytes, i64 %len) alwaysinline {
   store ptr %bytes, ptr %s, align 8
   %l = getelementptr i8, ptr %s, i64 8

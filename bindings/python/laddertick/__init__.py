@@ -49,6 +49,7 @@ from ._index import Entry, Index, Rectangle
 from ._library import VERSION, Bytes, meaning, version
 from ._refusal import Held, Refusal, Refused, Unfit, Unjoined
 from ._walk import Clear, Label, Label300, Labels, Print, Step, Steps, Walk, labels, steps
+from ._write import sized, write, write_label, write_label_300
 
 __version__ = VERSION
 
@@ -102,7 +103,11 @@ __all__ = [
     "listing",
     "meaning",
     "normalise",
+    "sized",
     "steps",
     "strict_listing",
     "version",
+    "write",
+    "write_label",
+    "write_label_300",
 ]

@@ -8,7 +8,7 @@ from operator import index
 from pathlib import Path
 from typing import Any, Callable, Dict, Iterator, List, Tuple, Union
 
-from ._structs import Answer, Checked, Element300, Entry, Joined, Label, Rectangle, Walk, Written
+from ._structs import Answer, Checked, Element, Element300, Entry, Joined, Label, Rectangle, Walk, Written
 
 # VERSION writes this line by tools/tables/run: version: begin
 VERSION = "1.0.0"
@@ -114,6 +114,9 @@ laddertick_inside = _bound("laddertick_inside", Written, *_FILE, *_ENTRIES, c_si
 laddertick_touching = _bound("laddertick_touching", Written, *_FILE, *_ENTRIES, c_size_t, Rectangle, *_NUMBERS)
 laddertick_nearest = _bound("laddertick_nearest", Written, *_FILE, *_ENTRIES, c_size_t, c_int32, c_int32)
 laddertick_to_300 = _bound("laddertick_to_300", Label, *_FILE, *_ENTRIES, c_size_t, POINTER(Element300), c_size_t)
+laddertick_write = _bound("laddertick_write", Written, *_FILE, Element, *_ROOM)
+laddertick_write_label = _bound("laddertick_write_label", Written, *_FILE, POINTER(Element), c_size_t, c_int32, c_int32, *_ROOM)
+laddertick_write_label_300 = _bound("laddertick_write_label_300", Written, *_FILE, POINTER(Element300), c_size_t, c_int32, c_int32, *_ROOM)
 
 
 def version() -> str:
@@ -147,6 +150,10 @@ def _within(name: str, number: int, least: int, most: int) -> int:
     if not least <= number <= most:
         raise OverflowError(f"{name} is not within {least} to {most}: {number}")
     return number
+
+
+def uint8(name: str, number: int) -> int:
+    return _within(name, number, 0, 0xFF)
 
 
 def int32(name: str, number: int) -> int:

@@ -55,6 +55,8 @@ class Refusal(IntEnum):
     """The host: a number past the list, or an entry that yields no label, when it is opened. The place is the number."""
     RECTANGLE_TURNED = 22
     """The host: a rectangle whose far corner is below its near one on either axis. The place is 0."""
+    NOT_READABLE = 23
+    """The host: an element that no single line or block, read at reference 0,0, yields, when it is written. The place is its number in the label, 0 if alone."""
     GRAPHIC_IN_LABEL = 24
     """The author of the label, in a conversion to 300 dots an inch alone: a label with a graphic; the line is that of its first block."""
     JOINED_TOO_LONG = 25

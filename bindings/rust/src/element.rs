@@ -1,6 +1,6 @@
+use crate::fill::filled;
 use crate::raw;
 pub use crate::raw::Dots300;
-use crate::write::write;
 use std::borrow::Cow;
 use std::str;
 
@@ -20,6 +20,11 @@ pub struct Element<'a, L = i32> {
 }
 
 impl<'a, L> Element<'a, L> {
+    /// An element of a host's own making, for [`write`](crate::write) and [`write_label`](crate::write_label), which refuse 23 what no file yields.
+    pub fn new(x: L, y: L, kind: Kind<L>, data: &'a [u8]) -> Element<'a, L> {
+        Element { x, y, kind, data }
+    }
+
     /// The data as text: UTF-8 as it stands, which is borrowed from the file; else decoded, with U+FFFD for what is none. A graphic has none.
     ///
     /// ```
@@ -37,7 +42,7 @@ impl<'a, L> Element<'a, L> {
         if let Ok(text) = str::from_utf8(self.data) {
             return Some(Cow::Borrowed(text));
         }
-        let bytes = write(self.data.len(), |out| raw::data(self.data, 0, self.data.len(), out));
+        let bytes = filled(self.data.len(), |out| raw::data(self.data, 0, self.data.len(), out));
         let bytes = bytes.expect("part of a file is no longer than the file");
         Some(Cow::Owned(String::from_utf8(bytes).expect("decoded data is UTF-8")))
     }
@@ -176,11 +181,11 @@ pub enum Kind<L = i32> {
 #[non_exhaustive]
 pub enum Colour {
     /// `LO` and `X`.
-    Black,
+    Black = 0,
     /// `LW`.
-    White,
+    White = 1,
     /// `LE`.
-    ExclusiveOr,
+    ExclusiveOr = 2,
 }
 
 /// What a text is set from.
@@ -192,6 +197,22 @@ pub struct Scale {
     pub horizontal: i32,
     /// The vertical multiplier, at least 1.
     pub vertical: i32,
+}
+
+impl Scale {
+    /// Height and width of the cell of a text with this scale, as [`Kind::Text`] has them; none where no text has it: a multiplier is below 1, or a product is beyond
+    /// 32 bits.
+    ///
+    /// ```
+    /// use laddertick::Scale;
+    /// assert_eq!(Scale { font: 3, horizontal: 4, vertical: 2 }.cell(), Some((40.0, 48.0)));
+    /// assert_eq!(Scale { font: 3, horizontal: 0, vertical: 2 }.cell(), None);
+    /// ```
+    pub fn cell(self) -> Option<(f64, f64)> {
+        let Scale { font, horizontal, vertical } = self;
+        let e = drawn(&format!("A0,0,0,{font},{horizontal},{vertical},N,\"x\""))?;
+        (self == scale(&e)).then_some((e.text_height, e.text_width))
+    }
 }
 
 /// What all bar codes with bars have.
@@ -207,15 +228,38 @@ pub struct Bars<L = i32> {
     pub line: bool,
 }
 
+impl<L> Bars<L> {
+    /// The ratio of a 2 of 5 or a Code 39 with these bars and this wide bar, as [`Kind`] has it; none where the narrow bar is below 1, which no bar code has.
+    ///
+    /// ```
+    /// let bars = laddertick::Bars { rotation: 0, narrow: 2, height: 70, line: true };
+    /// assert_eq!((bars.ratio(5), bars.ratio(-5)), (Some(2.5), Some(2.0)));
+    /// ```
+    pub fn ratio(&self, wide: i32) -> Option<f64> {
+        let e = drawn(&format!("B0,0,0,3,{},{wide},1,N,\"x\"", self.narrow))?;
+        (e.width == self.narrow).then_some(e.ratio)
+    }
+}
+
+/// What the library reads a line as, if it is one element.
+fn drawn(line: &str) -> Option<raw::Element> {
+    let answer = raw::step(line.as_bytes(), raw::start());
+    (answer.kind == answer.element.kind && answer.kind != 0).then_some(answer.element)
+}
+
+fn scale<L>(e: &raw::Element<L>) -> Scale {
+    Scale { font: e.font, horizontal: e.horizontal, vertical: e.vertical }
+}
+
 /// The mode of a Code 128.
 #[derive(Clone, Copy, Debug, PartialEq, Eq)]
 pub enum BarMode {
     /// UCC.
-    Ucc,
+    Ucc = 1,
     /// The encoder chooses.
-    Automatic,
+    Automatic = 2,
     /// EAN.
-    Ean,
+    Ean = 3,
 }
 
 /// The error correction of a QR code, by its letter.
@@ -231,18 +275,27 @@ pub enum QrLevel {
     L,
 }
 
-/// A length, and how many dots it has.
-pub(crate) trait Length: Copy {
+/// A length: so many dots.
+pub(crate) trait Length: Copy + Default {
+    fn of(dots: i32) -> Self;
     fn dots(self) -> i32;
 }
 
 impl Length for i32 {
+    fn of(dots: i32) -> i32 {
+        dots
+    }
+
     fn dots(self) -> i32 {
         self
     }
 }
 
 impl Length for Dots300 {
+    fn of(dots: i32) -> Dots300 {
+        Dots300(dots)
+    }
+
     fn dots(self) -> i32 {
         self.0
     }
@@ -253,10 +306,7 @@ pub(crate) fn element<L: Length>(input: &[u8], e: raw::Element<L>) -> Element<'_
     let bars = Bars { rotation: e.rotation, narrow: e.width.dots(), height: e.height, line: e.line != 0 };
     let (check, wide, ratio) = (e.check != 0, e.wide, e.ratio);
     let kind = match e.kind {
-        1 => {
-            let scale = Scale { font: e.font, horizontal: e.horizontal, vertical: e.vertical };
-            Kind::Text { rotation: e.rotation, reverse: e.reverse != 0, scale, height: e.text_height, width: e.text_width }
-        }
+        1 => Kind::Text { rotation: e.rotation, reverse: e.reverse != 0, scale: scale(&e), height: e.text_height, width: e.text_width },
         2 => Kind::Box { width: e.width, height: e.height, thickness: e.thickness, colour: colour(e.colour) },
         3 => Kind::Diagonal { width: e.width, height: e.height, thickness: e.thickness, falls: e.direction != 0 },
         4 => Kind::Graphic { row_bytes: e.row_bytes },
@@ -285,6 +335,44 @@ pub(crate) fn element<L: Length>(input: &[u8], e: raw::Element<L>) -> Element<'_
     Element { x: e.x, y: e.y, kind, data: &input[e.data_start..][..e.data_len] }
 }
 
+/// The element as the library has it, its data at a place in what is lent with it: the other way of `element`.
+pub(crate) fn plain<L: Length>(e: &Element<'_, L>, data_start: usize) -> raw::Element<L> {
+    let element = raw::Element { x: e.x, y: e.y, data_start, data_len: e.data.len(), ..raw::Element::default() };
+    let barred =
+        |kind, bars: &Bars<L>| raw::Element { kind, rotation: bars.rotation, width: L::of(bars.narrow), height: bars.height, line: bars.line as u8, ..element };
+    let wide = |kind, bars, check, wide, ratio| raw::Element { check: check as u8, wide, ratio, ..barred(kind, bars) };
+    match e.kind {
+        Kind::Text { rotation, reverse, scale: Scale { font, horizontal, vertical }, height, width } => {
+            raw::Element { kind: 1, rotation, reverse: reverse as u8, font, horizontal, vertical, text_height: height, text_width: width, ..element }
+        }
+        Kind::Box { width, height, thickness, colour } => raw::Element { kind: 2, width, height, thickness, colour: colour as u8, ..element },
+        Kind::Diagonal { width, height, thickness, falls } => raw::Element { kind: 3, width, height, thickness, direction: falls as u8, ..element },
+        Kind::Graphic { row_bytes } => raw::Element { kind: 4, row_bytes, ..element },
+        Kind::Code128 { ref bars, mode } => raw::Element { mode: mode as i32, ..barred(5, bars) },
+        Kind::Ean13(ref bars) => barred(6, bars),
+        Kind::Ean8(ref bars) => barred(7, bars),
+        Kind::UpcA(ref bars) => barred(8, bars),
+        Kind::Interleaved2of5 { ref bars, check, wide: bar, ratio } => wide(9, bars, check, bar, ratio),
+        Kind::Code39 { ref bars, check, wide: bar, ratio } => wide(10, bars, check, bar, ratio),
+        Kind::Pdf417 { rotation, row_height, security, columns, rows, truncate, module_width } => raw::Element {
+            kind: 11,
+            rotation,
+            height: L::of(row_height),
+            security,
+            columns,
+            rows,
+            truncate: truncate as u8,
+            width: L::of(module_width),
+            ..element
+        },
+        Kind::Aztec { magnification, size } => raw::Element { kind: 12, magnification, size, ..element },
+        Kind::DataMatrix { module, columns, rows } => raw::Element { kind: 13, height: L::of(module), columns, rows, ..element },
+        Kind::Qr { magnification, level } => raw::Element { kind: 14, magnification, level: letter(level), ..element },
+        Kind::Maxicode { mode } => raw::Element { kind: 15, mode, ..element },
+        Kind::UpcE(ref bars) => barred(16, bars),
+    }
+}
+
 fn colour(flag: u8) -> Colour {
     match flag {
         0 => Colour::Black,
@@ -307,5 +395,14 @@ fn qr_level(letter: u8) -> QrLevel {
         b'Q' => QrLevel::Q,
         b'M' => QrLevel::M,
         _ => QrLevel::L,
+    }
+}
+
+fn letter(level: QrLevel) -> u8 {
+    match level {
+        QrLevel::H => b'H',
+        QrLevel::Q => b'Q',
+        QrLevel::M => b'M',
+        QrLevel::L => b'L',
     }
 }

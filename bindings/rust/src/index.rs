@@ -1,7 +1,7 @@
 use crate::element::{element, Dots300, Element};
+use crate::fill::filled;
 use crate::raw::{self, Rectangle, Walk, Written};
 use crate::walk::{labels_from, steps_from, Label, Steps};
-use crate::write::write;
 use crate::Refused;
 use std::iter::FusedIterator;
 use std::ops::Range;
@@ -81,7 +81,7 @@ impl<'a> Index<'a> {
     /// # Ok::<(), laddertick::Refused>(())
     /// ```
     pub fn list(&self, number: usize) -> Result<String, Refused> {
-        let lines = write(0, |out| raw::open(self.input, &self.entries, number, out))?;
+        let lines = filled(0, |out| raw::open(self.input, &self.entries, number, out))?;
         Ok(String::from_utf8(lines).expect("a listing is hexadecimal digits and LF"))
     }
 

@@ -172,6 +172,27 @@ extern "C" {
         list: *mut Element300,
         list_len: usize,
     ) -> Label300;
+    fn laddertick_write(input: *const u8, input_len: usize, element: Element, out: *mut u8, out_len: usize) -> Written;
+    fn laddertick_write_label(
+        input: *const u8,
+        input_len: usize,
+        elements: *const Element,
+        elements_len: usize,
+        sets: i32,
+        copies: i32,
+        out: *mut u8,
+        out_len: usize,
+    ) -> Written;
+    fn laddertick_write_label_300(
+        input: *const u8,
+        input_len: usize,
+        elements: *const Element300,
+        elements_len: usize,
+        sets: i32,
+        copies: i32,
+        out: *mut u8,
+        out_len: usize,
+    ) -> Written;
 }
 
 // Safe, all of them: the pointers and lengths are those of slices, which nobody writes meanwhile and which, one of them being `&mut`, do not overlap. An empty
@@ -231,4 +252,16 @@ pub fn nearest(input: &[u8], entries: &[Entry], number: usize, x: i32, y: i32) -
 
 pub fn to_300(input: &[u8], entries: &[Entry], number: usize, list: &mut [Element300]) -> Label300 {
     unsafe { laddertick_to_300(input.as_ptr(), input.len(), entries.as_ptr(), entries.len(), number, list.as_mut_ptr(), list.len()) }
+}
+
+pub fn write(input: &[u8], element: Element, out: &mut [u8]) -> Written {
+    unsafe { laddertick_write(input.as_ptr(), input.len(), element, out.as_mut_ptr(), out.len()) }
+}
+
+pub fn write_label(input: &[u8], elements: &[Element], sets: i32, copies: i32, out: &mut [u8]) -> Written {
+    unsafe { laddertick_write_label(input.as_ptr(), input.len(), elements.as_ptr(), elements.len(), sets, copies, out.as_mut_ptr(), out.len()) }
+}
+
+pub fn write_label_300(input: &[u8], elements: &[Element300], sets: i32, copies: i32, out: &mut [u8]) -> Written {
+    unsafe { laddertick_write_label_300(input.as_ptr(), input.len(), elements.as_ptr(), elements.len(), sets, copies, out.as_mut_ptr(), out.len()) }
 }

@@ -3,7 +3,7 @@ ghost use mathlib.Core.Path.{_≡_};
 ghost use Rattle.barcodes.specs.Ratio.{ratioOf};
 
 // Wide to narrow, one rounding, at least 2.0.
-pub(crate) fn bar_ratio(wide: i32, narrow: i32) -> f64
+pub fn bar_ratio(wide: i32, narrow: i32) -> f64
     ensures { λ r. ⌜ r ≡ ratioOf wide narrow ⌝ }
 {
     let q = (wide as f64) / (narrow as f64);

@@ -8,7 +8,7 @@ use Rattle.elements.specs.declared.refusal.Refusal.the-variants.{Graphic
 use Rattle.elements.specs.declared.refusal.Refusal.the-variants.{OutOfRange, InputTooLong, OutputTooShort}
 use Rattle.elements.specs.declared.refusal.Refusal.the-variants.{StateOutside, NoValue, OutsideProfile}
 use Rattle.elements.specs.declared.refusal.Refusal.the-variants.{SizeOutside, TooManyLabels, NoSuchLabel}
-use Rattle.elements.specs.declared.refusal.Refusal.the-variants.{RectangleTurned, GraphicInLabel}
+use Rattle.elements.specs.declared.refusal.Refusal.the-variants.{RectangleTurned, NotReadable, GraphicInLabel}
 use Rattle.elements.specs.declared.refusal.Refusal.the-variants.{JoinedTooLong}
 
 abbrev pub numberOf : Refusal → ℕ
@@ -44,6 +44,8 @@ numberOf TooManyLabels = 20
 numberOf NoSuchLabel = 21
 -- 22 a rectangle whose far corner is below its near one on either axis
 numberOf RectangleTurned = 22
+-- 23 an element, or a label, that no file yields
+numberOf NotReadable = 23
 -- 24 a label with a graphic
 numberOf GraphicInLabel = 24
 -- 25 a joined text over 16,777,216 bytes

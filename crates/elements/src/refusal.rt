@@ -39,6 +39,8 @@ pub enum Refusal {
     NoSuchLabel,
     // a rectangle whose far corner is below its near one,
     RectangleTurned,
+    // an element, or a label, that no file yields,
+    NotReadable,
     // a label with a graphic, which has no other resolution,
     GraphicInLabel,
     // a joined text too long to be read.
@@ -73,6 +75,7 @@ impl Refusal {
             Refusal::TooManyLabels => 20,
             Refusal::NoSuchLabel => 21,
             Refusal::RectangleTurned => 22,
+            Refusal::NotReadable => 23,
             Refusal::GraphicInLabel => 24,
             Refusal::JoinedTooLong => 25,
         }

@@ -11,7 +11,7 @@ use Rattle.text.proofs.BlankWhiteLaws.{code-points-trim}
 use Rattle.texts.proofs.FontLaws.{width-exact}
 use Rattle.elements.specs.declared.LabelElement.{LabelElement}
 use Rattle.elements.specs.declared.refusal.Refusal.{Refusal}
-use Rattle.elements.specs.declared.refusal.Refusal.the-variants.{TextFields, BarcodeFields, Barcode2dFields, LineFields, DiagonalFields, BoxFields, BarcodeType, Barcode2dType, QrData, GraphicFields, GraphicNegative, GraphicTruncated, OutOfRange, InputTooLong, OutputTooShort, StateOutside, NoValue, OutsideProfile, SizeOutside, TooManyLabels, NoSuchLabel, RectangleTurned, GraphicInLabel, JoinedTooLong}
+use Rattle.elements.specs.declared.refusal.Refusal.the-variants.{TextFields, BarcodeFields, Barcode2dFields, LineFields, DiagonalFields, BoxFields, BarcodeType, Barcode2dType, QrData, GraphicFields, GraphicNegative, GraphicTruncated, OutOfRange, InputTooLong, OutputTooShort, StateOutside, NoValue, OutsideProfile, SizeOutside, TooManyLabels, NoSuchLabel, RectangleTurned, NotReadable, GraphicInLabel, JoinedTooLong}
 use Rattle.elements.specs.Refusals.{numberOf}
 use Rattle.elements.specs.Walk.{fresh}
 use Rattle.element_frames.specs.Frame.{be32, head, frameOf}
@@ -103,6 +103,7 @@ use Rattle.dots.proofs.LengthLaws.{to300-near, to300-nearest, nearest-to300, to
 use Rattle.dots.specs.Length.{Nearest}
 use Rattle.laddertick.proofs.ResolutionLaws.{resolution, to-300-keeps, long-to-300}
 use Rattle.laddertick.proofs.Converted as converted
+use Rattle.laddertick.proofs.WritingLaws.{writing}
 
 -- a frame looks only at the bytes of its own unit, wherever they stand
 local : Local epl (List ℕ) frameOf
@@ -366,6 +367,7 @@ numbered-of SizeOutside = (omega arith, omega arith)
 numbered-of TooManyLabels = (omega arith, omega arith)
 numbered-of NoSuchLabel = (omega arith, omega arith)
 numbered-of RectangleTurned = (omega arith, omega arith)
+numbered-of NotReadable = (omega arith, omega arith)
 numbered-of GraphicInLabel = (omega arith, omega arith)
 numbered-of JoinedTooLong = (omega arith, omega arith)
 
@@ -451,6 +453,7 @@ claims library = record {
     range = to300-range;
   };
   resolution = resolution library;
+  writing = writing library;
   block-bytes = block-bytes;
   line-blocks = line-blocks;
   flat = record { frame = flat-frame; next = flat-next; kind = flat-kind; clear = λ st. refl; end = λ st. refl };

@@ -25,6 +25,9 @@ pub mod LyingLaws
 pub mod LyingOwnLaws
 -- from 203 to 300 dots
 pub mod ResolutionLaws
+-- writing EPL
+pub mod WritingLabelLaws
+pub mod WritingLaws
 -- the code
 pub mod Proved
 -- the claims

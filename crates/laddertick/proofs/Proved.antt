@@ -13,6 +13,10 @@ use Rattle.finds.proofs.find.inside.Met as inside
 use Rattle.finds.proofs.find.touching.Met as touching
 use Rattle.finds.proofs.nearest.nearest.Met as nearest
 use Rattle.converting.proofs.label.to_300.Met as to-300
+use Rattle.writing.proofs.write.write.Met as write
+use Rattle.writing.proofs.plain.write_plain.Met as write-plain
+use Rattle.writing_label.proofs.label.write_label.Met as write-label
+use Rattle.writing_label.proofs.at_300.write_label_300.Met as write-label-300
 use Rattle.laddertick.specs.Proved.{Proved}
 
 pub proved : Proved
@@ -29,12 +33,18 @@ proved = record {
   touching = touching.met;
   nearest = nearest.met;
   to-300 = to-300.met;
+  write = write.met;
+  write-plain = write-plain.met;
+  write-label = write-label.met;
+  write-label-300 = write-label-300.met;
   start-owes = λ κs a r z p. p;
   step-owes = λ κs a r z p. p;
   list-owes = λ κs a r z p. p;
   normalise-owes = λ κs a r z p. p;
   check-owes = λ κs a r z p. p;
   strict-list-owes = λ κs a r z p. p;
+  write-owes = λ κs a r z p. p;
+  write-plain-owes = λ κs a r z p. p;
   index-says = λ M 𝓤 H A mem run κs a g. (refl, λ r z. refl);
   open-label-says = λ M 𝓤 H A mem run κs a g. (refl, λ r z. refl);
   join = join.met;
@@ -43,4 +53,6 @@ proved = record {
   touching-says = λ M 𝓤 H A mem run κs a g. (refl, λ r z. refl);
   nearest-says = λ M 𝓤 H A mem run κs a g. (refl, λ r z. refl);
   to-300-says = λ M 𝓤 H A mem run κs a g. (refl, λ r z. refl);
+  write-label-says = λ M 𝓤 H A mem run κs a g. (refl, λ r z. refl);
+  write-label-300-says = λ M 𝓤 H A mem run κs a g. (refl, λ r z. refl);
 }

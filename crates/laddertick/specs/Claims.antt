@@ -99,6 +99,7 @@ use Rattle.whole.specs.Labels.{flush}
 use Rattle.grammar.specs.Epl.{EplPrint}
 use Rattle.changes.specs.OneLine.{Ending, unitOf, Replaced, Quiet, Is, Between, Next, saysOf, atHand, InLabel, Counted}
 use Rattle.laddertick.specs.Lying as laid
+use Rattle.laddertick.specs.Writing.{Writing}
 
 -- "the string divides end to end into graphic blocks and command lines by 01's grammar with every position and size
 -- within signed 32 bits", and has these labels and n elements pending at its end
@@ -510,6 +511,8 @@ pub record Claims (library : Library) : Type 0 where
   -- from 203 to 300 dots
   pub dots : Dots
   pub resolution : (s : List ℕ) (es : List LabelEntry) (i : ℕ) → Resolution library s es i
+  -- writing EPL
+  pub writing : Writing library
   -- a graphic block is its bytes, blanks, `GW`, four fields and payload; a line has none
   pub block-bytes : (bs p : List ℕ) (h : Header) → blocks (block bs h p)
       ≡ (bs ++ spelt "GW" (h .x ++ spelt "," (h .y ++ spelt "," (h .width ++ spelt "," (h .lines ++ spelt "," p))))) ∷ []

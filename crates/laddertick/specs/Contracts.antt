@@ -6,6 +6,12 @@ use Prim.Native.Nat.{ℕ, _≤_, _<_}
 use lib.ListN.{length, drop}
 use Rattle.elements.specs.declared.filled.Filled.{Filled}
 use Rattle.elements.specs.declared.LabelPosition.{LabelPosition}
+use Rattle.elements.specs.declared.LabelElement.{LabelElement}
+use Rattle.elements.specs.declared.PrintCounts.{PrintCounts}
+use Rattle.spellings.specs.Due.{elementDue}
+use Rattle.flat.specs.declared.answer.Element.{Element}
+use Rattle.writing.specs.Plain.{plainDue}
+use Rattle.writing_label.specs.Label.{plainLabelDue, plainLabelDue300}
 use Rattle.elements.specs.declared.walk_state.WalkState.{WalkState}
 use Rattle.elements.specs.Given.{bytes, refused, Fills, givenOf}
 use Rattle.whole.specs.Step.{step}
@@ -104,6 +110,22 @@ pub record Converting : Type 0 where
   pub answer : Label300
   pub list : List Element300
 
+-- `write` answers r to the input s, its element e and the buffer l, which becomes n
+abbrev pub Spelled : List ℕ → LabelElement → List ℕ → List ℕ → Filled → Type 0
+Spelled s e l n r = Fills n l (elementDue s e) (givenOf r)
+
+-- `write_plain` answers r to the input s, the struct x and the buffer l, which becomes n
+abbrev pub SpelledPlain : List ℕ → Element → List ℕ → List ℕ → Filled → Type 0
+SpelledPlain s x l n r = Fills n l (plainDue s x) (givenOf r)
+
+-- `write_label` answers r to the input s, the structs xs, the counts q and the buffer l, which becomes n
+abbrev pub SpelledLabel : List ℕ → List Element → PrintCounts → List ℕ → List ℕ → Filled → Type 0
+SpelledLabel s xs q l n r = Fills n l (plainLabelDue s xs q) (givenOf r)
+
+-- `write_label_300`, likewise
+abbrev pub SpelledLabel300 : List ℕ → List Element300 → PrintCounts → List ℕ → List ℕ → Filled → Type 0
+SpelledLabel300 s xs q l n r = Fills n l (plainLabelDue300 s xs q) (givenOf r)
+
 -- functions of the input and the state, or of the input and the buffer as it came, that meet these contracts
 pub record Library : Type 0 where
   pub step : List ℕ → WalkState → Answer
@@ -117,6 +139,10 @@ pub record Library : Type 0 where
   pub touching : List ℕ → List LabelEntry → ℕ → Rectangle → List ℕ → Finding
   pub nearest : List ℕ → List LabelEntry → ℕ → LabelPosition → Found
   pub to-300 : List ℕ → List LabelEntry → ℕ → List Element300 → Converting
+  pub write : List ℕ → LabelElement → List ℕ → Filling
+  pub write-plain : List ℕ → Element → List ℕ → Filling
+  pub write-label : List ℕ → List Element → PrintCounts → List ℕ → Filling
+  pub write-label-300 : List ℕ → List Element300 → PrintCounts → List ℕ → Filling
   pub steps : (s : List ℕ) (w : WalkState) → Stepped s w (step s w)
   pub lists : (s l : List ℕ) → Listed s l (list s l .buffer) (list s l .answer)
   pub normalises : (s l : List ℕ) → Normalised s l (normalise s l .buffer) (normalise s l .answer)
@@ -135,6 +161,13 @@ pub record Library : Type 0 where
   pub nears : (s : List ℕ) (es : List LabelEntry) (i : ℕ) (q : LabelPosition) → Nearest s es i q (nearest s es i q)
   pub converts : (s : List ℕ) (es : List LabelEntry) (i : ℕ) (l : List Element300)
       → Converted s es i l (to-300 s es i l .list) (to-300 s es i l .answer)
+  pub writes : (s : List ℕ) (e : LabelElement) (l : List ℕ) → Spelled s e l (write s e l .buffer) (write s e l .answer)
+  pub writes-plain : (s : List ℕ) (x : Element) (l : List ℕ)
+      → SpelledPlain s x l (write-plain s x l .buffer) (write-plain s x l .answer)
+  pub writes-label : (s : List ℕ) (xs : List Element) (q : PrintCounts) (l : List ℕ)
+      → SpelledLabel s xs q l (write-label s xs q l .buffer) (write-label s xs q l .answer)
+  pub writes-label-300 : (s : List ℕ) (xs : List Element300) (q : PrintCounts) (l : List ℕ)
+      → SpelledLabel300 s xs q l (write-label-300 s xs q l .buffer) (write-label-300 s xs q l .answer)
 
 -- ---- what a call did, from its answer and its buffer alone
 

@@ -2,6 +2,8 @@
 pub mod Claims
 -- what the entry points promise; the walk of a function that meets it
 pub mod Contracts
+-- 01, "Writing EPL": writing EPL
+pub mod Writing
 pub mod Walked
 -- lines that differ in their colour; sizes and ratios by an element's own fields
 pub mod Coloured

@@ -49,9 +49,19 @@ use Rattle.finds.proofs.nearest.nearest.Statement as nearest
 use Rattle.finds.proofs.nearest.nearest as nearest-fn
 use Rattle.converting.proofs.label.to_300.Statement as to-300
 use Rattle.converting.proofs.label.to_300 as to-300-fn
+use Rattle.writing.proofs.write.write.Statement as write
+use Rattle.writing.proofs.write.write.Kinds as write-kinds
+use Rattle.writing.proofs.write.write.Reads as write-reads
+use Rattle.writing.proofs.plain.write_plain.Statement as write-plain
+use Rattle.writing.proofs.plain.write_plain.Kinds as write-plain-kinds
+use Rattle.writing.proofs.plain.write_plain.Reads as write-plain-reads
+use Rattle.writing_label.proofs.label.write_label.Statement as write-label
+use Rattle.writing_label.proofs.label.write_label as write-label-fn
+use Rattle.writing_label.proofs.at_300.write_label_300.Statement as write-label-300
+use Rattle.writing_label.proofs.at_300.write_label_300 as write-label-300-fn
 use Rattle.laddertick.specs.Contracts.{Stepped, Listed, Normalised, Judged, StrictlyListed, Entered, Opened, JoinedBy}
 use Rattle.laddertick.specs.Contracts.{Inside, Touching, Nearest}
-use Rattle.laddertick.specs.Contracts.{Converted}
+use Rattle.laddertick.specs.Contracts.{Converted, Spelled, SpelledPlain, SpelledLabel, SpelledLabel300}
 
 -- what is said of the arguments, the result and the arguments at exit by the first is said by the second
 abbrev pub Owes : (n : ℕ) (ps : List (PK n)) (r : RK n) → Out n ps r → Out n ps r → Type 0
@@ -83,6 +93,10 @@ pub record Proved : Type 2 where
   pub touching : {M : Type 1} → touching.statement M
   pub nearest : {M : Type 1} → nearest.statement M
   pub to-300 : {M : Type 1} → to-300.statement M
+  pub write : {M : Type 1} → write.statement M
+  pub write-plain : {M : Type 1} → write-plain.statement M
+  pub write-label : {M : Type 1} → write-label.statement M
+  pub write-label-300 : {M : Type 1} → write-label-300.statement M
   -- a are the arguments, r the result, z the arguments at exit: the input, then the state or the buffer
   pub start-owes : Owes 0 start-kinds.ps start-kinds.r start-reads.Post (λ κs a r z. r ≡ fresh)
   pub step-owes : Owes 1 step-kinds.ps step-kinds.r step-reads.Post (λ κs a r z. Stepped (a .0 .now) (a .1 .0) r)
@@ -93,6 +107,10 @@ pub record Proved : Type 2 where
   pub check-owes : Owes 1 check-kinds.ps check-kinds.r check-reads.Post (λ κs a r z. Judged (a .0 .now) r)
   pub strict-list-owes : Owes 2 strict-list-kinds.ps strict-list-kinds.r strict-list-reads.Post
       (λ κs a r z. StrictlyListed (a .0 .now) (a .1 .0 .now) (z .1 .0 .now) r)
+  pub write-owes : Owes 2 write-kinds.ps write-kinds.r write-reads.Post
+      (λ κs a r z. Spelled (a .0 .now) (a .1 .0) (a .1 .1 .0 .now) (z .1 .1 .0 .now) r)
+  pub write-plain-owes : Owes 2 write-plain-kinds.ps write-plain-kinds.r write-plain-reads.Post
+      (λ κs a r z. SpelledPlain (a .0 .now) (a .1 .0) (a .1 .1 .0 .now) (z .1 .1 .0 .now) r)
   pub index-says : Says index-fn.ended (λ M. index-fn.clauses {M = M})
       (λ κs a r z. Entered (a .0 .now) (a .1 .0 .now) (z .1 .0 .now) r)
   pub open-label-says : Says open-label-fn.ended (λ M. open-label-fn.clauses {M = M})
@@ -112,3 +130,10 @@ pub record Proved : Type 2 where
       (λ κs a r z. Nearest (a .0 .now) (a .1 .0 .now) (a .1 .1 .0) (a .1 .1 .1 .0) r)
   pub to-300-says : Says to-300-fn.ended (λ M. to-300-fn.clauses {M = M})
       (λ κs a r z. Converted (a .0 .now) (a .1 .0 .now) (a .1 .1 .0) (a .1 .1 .1 .0 .now) (z .1 .1 .1 .0 .now) r)
+  -- the input, the structs, sets, copies and the buffer
+  pub write-label-says : Says write-label-fn.ended (λ M. write-label-fn.clauses {M = M})
+      (λ κs a r z. SpelledLabel (a .0 .now) (a .1 .0 .now) (record { sets = a .1 .1 .0; copies = a .1 .1 .1 .0 })
+      (a .1 .1 .1 .1 .0 .now) (z .1 .1 .1 .1 .0 .now) r)
+  pub write-label-300-says : Says write-label-300-fn.ended (λ M. write-label-300-fn.clauses {M = M})
+      (λ κs a r z. SpelledLabel300 (a .0 .now) (a .1 .0 .now) (record { sets = a .1 .1 .0; copies = a .1 .1 .1 .0 })
+      (a .1 .1 .1 .1 .0 .now) (z .1 .1 .1 .1 .0 .now) r)

@@ -1,7 +1,7 @@
 // The host's entry points: a walk a step at a time, the listing of a file, and its normalised text; the well-site
 // profile's verdict on a file, and its listing under the profile; the label index, and one label opened; what lies where
-// on a label; a label from 203 to 300 dots; two files joined; with every type that a host is handed. What is claimed of
-// them stands in specs/Claims.antt.
+// on a label; a label from 203 to 300 dots; two files joined; one element written as its command, also from a struct; with
+// every type that a host is handed. What is claimed of them stands in specs/Claims.antt.
 pub use converting::label::Label300;
 pub use converting::label::to_300;
 pub use dots::element::Element300;
@@ -50,6 +50,7 @@ pub use finds::find::inside;
 pub use finds::find::touching;
 pub use finds::found::Found;
 pub use finds::nearest::nearest;
+pub use flat::answer::Element;
 pub use format::normalise::normalise;
 pub use frames::listing::list;
 pub use index::entry::LabelEntry;
@@ -65,3 +66,7 @@ pub use strict::verdict::Checked;
 pub use walk::answer::Answer;
 pub use walk::answer::Printed;
 pub use walk::step::step;
+pub use writing::plain::write_plain;
+pub use writing::write::write;
+pub use writing_label::at_300::write_label_300;
+pub use writing_label::label::write_label;

@@ -67,6 +67,18 @@ use Rattle.laddertick_c.proofs.laddertick_touching.Met as touching-met
 use Rattle.laddertick_c.proofs.laddertick_nearest as nearest-fn
 use Rattle.laddertick_c.proofs.laddertick_nearest.Statement as nearest
 use Rattle.laddertick_c.proofs.laddertick_nearest.Met as nearest-met
+use Rattle.laddertick_c.proofs.laddertick_write.Statement as write
+use Rattle.laddertick_c.proofs.laddertick_write.Kinds as write-kinds
+use Rattle.laddertick_c.proofs.laddertick_write.Reads as write-reads
+use Rattle.laddertick_c.proofs.laddertick_write.Met as write-met
+use Rattle.laddertick_c.proofs.laddertick_write_label as write-label-fn
+use Rattle.laddertick_c.proofs.laddertick_write_label.Statement as write-label
+use Rattle.laddertick_c.proofs.laddertick_write_label.Met as write-label-met
+use Rattle.laddertick_c.proofs.laddertick_write_label_300 as write-label-300-fn
+use Rattle.laddertick_c.proofs.laddertick_write_label_300.Statement as write-label-300
+use Rattle.laddertick_c.proofs.laddertick_write_label_300.Met as write-label-300-met
+use Rattle.writing.specs.Plain.{plainDue}
+use Rattle.writing_label.specs.Label.{plainLabelDue, plainLabelDue300}
 use Rattle.converting.specs.Conversion.{conversionOf, Converts}
 use Rattle.laddertick_c.proofs.laddertick_to_300 as to-300-fn
 use Rattle.laddertick_c.proofs.laddertick_to_300.Statement as to-300
@@ -86,6 +98,9 @@ pub record Proved : Type 2 where
   pub touching : {M : Type 1} → touching.statement M
   pub nearest : {M : Type 1} → nearest.statement M
   pub to-300 : {M : Type 1} → to-300.statement M
+  pub write : {M : Type 1} → write.statement M
+  pub write-label : {M : Type 1} → write-label.statement M
+  pub write-label-300 : {M : Type 1} → write-label-300.statement M
   pub start-owes : Owes 0 start-kinds.ps start-kinds.r start-reads.Post (λ κs a r z. r ≡ fresh)
   pub step-owes : Owes 1 step-kinds.ps step-kinds.r step-reads.Post (λ κs a r z. r ≡ flatOf (theory.step epl (a .0 .now) (stateOf (a .1 .0))))
   pub decode-owes : Owes 2 decode-kinds.ps decode-kinds.r decode-reads.Post
@@ -94,6 +109,7 @@ pub record Proved : Type 2 where
   pub normalise-owes : Owes 2 normalise-kinds.ps normalise-kinds.r normalise-reads.Post (λ κs a r z. Fills (z .1 .0 .now) (a .1 .0 .now) (normal.dueOf (a .0 .now)) (givenFlat r))
   pub check-owes : Owes 1 check-kinds.ps check-kinds.r check-reads.Post (λ κs a r z. r ≡ checkedOf (a .0 .now))
   pub strict-list-owes : Owes 2 strict-list-kinds.ps strict-list-kinds.r strict-list-reads.Post (λ κs a r z. Fills (z .1 .0 .now) (a .1 .0 .now) (strictDueOf (a .0 .now)) (givenFlat r))
+  pub write-owes : Owes 2 write-kinds.ps write-kinds.r write-reads.Post (λ κs a r z. Fills (z .1 .1 .0 .now) (a .1 .1 .0 .now) (plainDue (a .0 .now) (a .1 .0)) (givenFlat r))
   pub index-says : Says index-fn.ended (λ M. index-fn.clauses {M = M}) (λ κs a r z. Indexes (z .1 .0 .now) (a .1 .0 .now) (fillingOf (a .0 .now) (length (a .1 .0 .now))) (countedFlat r))
   pub open-label-says : Says open-fn.ended (λ M. open-fn.clauses {M = M}) (λ κs a r z. Fills (z .1 .1 .1 .0 .now) (a .1 .1 .1 .0 .now) (opening.dueOf (a .0 .now) (a .1 .0 .now) (a .1 .1 .0)) (givenFlat r))
   pub join : {M : Type 1} → join.statement M
@@ -103,6 +119,8 @@ pub record Proved : Type 2 where
   pub touching-says : Says touching-fn.ended (λ M. touching-fn.clauses {M = M}) (λ κs a r z. Fills (z .1 .1 .1 .1 .0 .now) (a .1 .1 .1 .1 .0 .now) (touchingDue (a .0 .now) (a .1 .0 .now) (a .1 .1 .0) (a .1 .1 .1 .0)) (givenFlat r))
   pub nearest-says : Says nearest-fn.ended (λ M. nearest-fn.clauses {M = M}) (λ κs a r z. spotFlat r ≡ nearestDue (a .0 .now) (a .1 .0 .now) (a .1 .1 .0) (record { x = a .1 .1 .1 .0; y = a .1 .1 .1 .1 .0 }))
   pub to-300-says : Says to-300-fn.ended (λ M. to-300-fn.clauses {M = M}) (λ κs a r z. Converts (z .1 .1 .1 .0 .now) (a .1 .1 .1 .0 .now) (conversionOf (a .0 .now) (a .1 .0 .now) (a .1 .1 .0) (length (a .1 .1 .1 .0 .now))) r)
+  pub write-label-says : Says write-label-fn.ended (λ M. write-label-fn.clauses {M = M}) (λ κs a r z. Fills (z .1 .1 .1 .1 .0 .now) (a .1 .1 .1 .1 .0 .now) (plainLabelDue (a .0 .now) (a .1 .0 .now) (record { sets = a .1 .1 .0; copies = a .1 .1 .1 .0 })) (givenFlat r))
+  pub write-label-300-says : Says write-label-300-fn.ended (λ M. write-label-300-fn.clauses {M = M}) (λ κs a r z. Fills (z .1 .1 .1 .1 .0 .now) (a .1 .1 .1 .1 .0 .now) (plainLabelDue300 (a .0 .now) (a .1 .0 .now) (record { sets = a .1 .1 .0; copies = a .1 .1 .1 .0 })) (givenFlat r))
 
 pub proved : Proved
 proved = record {
@@ -119,6 +137,9 @@ proved = record {
   touching = touching-met.met;
   nearest = nearest-met.met;
   to-300 = to-300-met.met;
+  write = write-met.met;
+  write-label = write-label-met.met;
+  write-label-300 = write-label-300-met.met;
   start-owes = λ κs a r z p. p;
   step-owes = λ κs a r z p. p;
   decode-owes = λ κs a r z p. p;
@@ -126,6 +147,7 @@ proved = record {
   normalise-owes = λ κs a r z p. p;
   check-owes = λ κs a r z p. p;
   strict-list-owes = λ κs a r z p. p;
+  write-owes = λ κs a r z p. p;
   index-says = λ M 𝓤 H A mem run κs a g. (refl, λ r z. refl);
   open-label-says = λ M 𝓤 H A mem run κs a g. (refl, λ r z. refl);
   join = join-met.met;
@@ -134,4 +156,6 @@ proved = record {
   touching-says = λ M 𝓤 H A mem run κs a g. (refl, λ r z. refl);
   nearest-says = λ M 𝓤 H A mem run κs a g. (refl, λ r z. refl);
   to-300-says = λ M 𝓤 H A mem run κs a g. (refl, λ r z. refl);
+  write-label-says = λ M 𝓤 H A mem run κs a g. (refl, λ r z. refl);
+  write-label-300-says = λ M 𝓤 H A mem run κs a g. (refl, λ r z. refl);
 }

@@ -18,6 +18,8 @@ ghost use Rattle.strict.specs.Listing.{strictDueOf};
 ghost use Rattle.elements.specs.Walk.{fresh};
 ghost use Rattle.walk.specs.Steps.{stateOf};
 ghost use Rattle.flat.specs.Steps.{flatOf};
+ghost use Rattle.writing.specs.Plain.{plainDue};
+ghost use Rattle.writing_label.specs.Label.{plainLabelDue, plainLabelDue300};
 use decoding::data::decode;
 use elements::DataSpan;
 use flat::answer::FlatAnswer;
@@ -27,6 +29,7 @@ use flat::written::of_filled;
 use flat::written::of_found;
 use flat::written::of_indexed;
 use laddertick::Checked;
+use laddertick::Element;
 use laddertick::Element300;
 use laddertick::Joined;
 use laddertick::Label300;
@@ -47,6 +50,9 @@ use laddertick::step;
 use laddertick::strict_list;
 use laddertick::to_300;
 use laddertick::touching;
+use laddertick::write_label;
+use laddertick::write_label_300;
+use laddertick::write_plain;
 
 // The state before the first byte.
 #[no_mangle]
@@ -199,4 +205,41 @@ pub extern "C" fn laddertick_to_300(
     ensures { λ r. ⌜ Converts (now (list .exit)) (now (list .entry)) (conversionOf (now (input .entry)) (now (entries .entry)) number (length (now (list .entry)))) r ⌝ }
 {
     to_300(input, entries, number, list)
+}
+
+// The element as one command and its LF, from the start of out; or a refusal that leaves out as it came. A struct that no
+// element has is 23.
+#[no_mangle]
+pub extern "C" fn laddertick_write(input: &[u8], element: Element, out: &mut [u8]) -> Written
+    ensures { λ r. ⌜ Fills (now (out .exit)) (now (out .entry)) (plainDue (now (input .entry)) element) (givenFlat r) ⌝ }
+{
+    of_filled(write_plain(input, element, out))
+}
+
+// A label as EPL: `N`, its elements and its print line, from the start of out; or a refusal that leaves out as it came.
+#[no_mangle]
+pub extern "C" fn laddertick_write_label(
+    input: &[u8],
+    elements: &[Element],
+    sets: i32,
+    copies: i32,
+    out: &mut [u8],
+) -> Written
+    ensures { λ r. ⌜ Fills (now (out .exit)) (now (out .entry)) (plainLabelDue (now (input .entry)) (now (elements .entry)) (record { sets = sets; copies = copies })) (givenFlat r) ⌝ }
+{
+    of_filled(write_label(input, elements, sets, copies, out))
+}
+
+// The same of a label at 300 dots an inch.
+#[no_mangle]
+pub extern "C" fn laddertick_write_label_300(
+    input: &[u8],
+    elements: &[Element300],
+    sets: i32,
+    copies: i32,
+    out: &mut [u8],
+) -> Written
+    ensures { λ r. ⌜ Fills (now (out .exit)) (now (out .entry)) (plainLabelDue300 (now (input .entry)) (now (elements .entry)) (record { sets = sets; copies = copies })) (givenFlat r) ⌝ }
+{
+    of_filled(write_label_300(input, elements, sets, copies, out))
 }

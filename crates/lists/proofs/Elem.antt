@@ -52,6 +52,9 @@ none = record { vals = λ _. vunit ∷ []; tells = nothing-tells; lawful = λ �
 abbrev pub bytes : (ℓ : Lifetime) (κ : Lft) → Known (ShrSlice ℓ κ u8)
 bytes ℓ κ = record { vals = slice-vals; tells = shr-slice-tells ℓ κ u8; lawful = λ 𝓤 H A W. shr-slice-lawful 𝓤 H A W ℓ κ u8 }
 
+abbrev pub bytes-mut : (ℓ : Lifetime) (κ : Lft) → Known (MutSlice ℓ κ u8)
+bytes-mut ℓ κ = record { vals = slice-vals; tells = mut-slice-tells ℓ κ u8; lawful = λ 𝓤 H A W. mut-slice-lawful 𝓤 H A W ℓ κ u8 }
+
 module _ (E : Elem) where
   abbrev pub row-of : RattleType
   row-of = row (E .type)

@@ -14,7 +14,6 @@ use mathlib.Core.Path.{_≡_, refl, sym, _∙_, ap, subst}
 use Prim.Native.Nat.{ℕ, zero, suc, _<_, _≤_, _*_, _+_, _^_}
 use native.Mathlib.Nat.{zero-add, add-zero, lt-suc-self, lt-of-lt-of-le, lt-of-le-of-lt}
 use native.Mathlib.Numerals.{add-one}
-use native.Mathlib.Omega.{arith}
 use mathlib.Core.List.{List, [], _∷_, _++_}
 use mathlib.Core.WellFounded.{WellFounded, InvImage·wf}
 use lib.ListN.{length, set, length-set, drop as without}
@@ -58,9 +57,10 @@ use Rattle.lists.specs.Filled.{made}
 use Rattle.lists.proofs.Elem.{Elem, row-of, val, vals, elem, lent-mut, bytes, number, ref, ty, word, still-last, last-list}
 use Rattle.lists.proofs.Place.{at-fits, size-fits}
 use Rattle.lists.proofs.Steps.{whiles, frees, frees-room}
+use Rattle.lists.proofs.Turns.{left-over, no-more-of, is-some, one-less, before}
 use Rattle.lists.proofs.Walks.{Lives, Spec, walked, calls, typed}
 
--- ---- numbers and lists
+-- ---- lists
 length-made : {C E : Type 0} (step : C → C) (of : C → E) (n : ℕ) (c : C) → length (made step of n c) ≡ n
 length-made step of zero c = refl
 length-made step of (suc n) c = ap suc (length-made step of n (step c))
@@ -68,22 +68,6 @@ length-made step of (suc n) c = ap suc (length-made step of n (step c))
 -- elements that are stored from the front
 from-front : {E : Type 0} (vs l : List E) (n : ℕ) → length vs ≡ n → n ≤ length l → sets l 0 vs ≡ vs ++ without n l
 from-front vs l n e h = sets-eq vs l 0 (subst (λ (m : ℕ). m ≤ length l) (sym (zero-add (length vs) ∙ e)) h) ∙ ap (λ (m : ℕ). vs ++ without m l) (zero-add (length vs) ∙ e)
-
-left-over : (k i n : ℕ) → k + i ≡ n → i < n → 0 < k
-left-over k i n e h = omega (arith, e, h)
-
-no-more-of : (k i n : ℕ) → k + i ≡ n → n ≤ i → k ≡ 0
-no-more-of k i n e h = omega (arith, e, h)
-
-is-some : (k j : ℕ) → k ≡ suc j → 0 < k
-is-some k j e = omega (arith, e)
-
-one-less : (k j i n : ℕ) → k ≡ suc j → k + i ≡ n → j + suc i ≡ n
-one-less k j i n e h = omega (arith, e, h)
-
-before : (k : ℕ) → 0 < k → (j : ℕ) × (k ≡ suc j)
-before zero h = absurd (omega (arith, h))
-before (suc j) h = (j, refl)
 
 -- the tokens of two lifetimes, the second's first
 both-alive : {M : Type 1} (𝓤 : URA M) (H : Heap 𝓤) (A : Atoms 𝓤) → Given 𝓤 H A → (κ κ′ : Lft) (q q′ : Share) → ent 𝓤 (sep 𝓤 (A .lft κ′ q′) (sep 𝓤 (A .lft κ q) (emp 𝓤))) (sep 𝓤 (A .lft κ q) (sep 𝓤 (A .lft κ′ q′) (emp 𝓤)))

@@ -53,7 +53,7 @@ pub(crate) fn text_width(height: i32, across: i32) -> f64
 }
 
 // A text's size and rotation. With equal multipliers it is as wide as high.
-pub(crate) fn font_info(font_num: i32, h_mult: i32, v_mult: i32, rotation: i32) -> Scaled
+pub fn font_info(font_num: i32, h_mult: i32, v_mult: i32, rotation: i32) -> Scaled
     ensures { λ r. ⌜ r ≡ fontOf «font_num» «h_mult» «v_mult» rotation ⌝ }
 {
     let cell = epl_font_size(font_num);

@@ -1,0 +1,2 @@
+pub mod UnflatLaws
+pub mod StandingLaws

@@ -1,0 +1,2 @@
+-- 01, "Writing EPL": an element as a host makes it
+pub mod Unflat

@@ -1,0 +1,7 @@
+pub mod FillLaws
+pub mod TemplateLaws
+pub mod SpellLaws
+pub mod FineLaws
+pub mod WriteLaws
+pub mod PlaceLaws
+pub mod PlainLaws

@@ -1,0 +1,39 @@
+-- `writing_label::turn::turn` meets its contract. Assumes nothing.
+use mathlib.Core.Path.{sym, ap, _∙_}
+use mathlib.Core.Bool.{true≢false}
+use native.Mathlib.Omega.{arith}
+use Rattle.writing_label.specs.Tally.{afterOf}
+use borrow.Author.Needs.{needs}
+use Rattle.writing_label.proofs.turn.turn.Statement.{statement}
+use Rattle.writing_label.proofs.turn.turn.Tie as tie
+
+returns : tie.Need-returns
+returns c = record { is = simp (c .if1 .taken); small = λ h. absurd (true≢false (sym (c .if1 .taken) ∙ h)) }
+
+put-plain-requires : tie.Need-put-plain-requires
+put-plain-requires c κs = search needs
+
+after-requires : tie.Need-after-requires
+after-requires c κs = search needs
+
+same-length : tie.Need-same-length
+same-length c = search needs
+
+returns-2 : tie.Need-returns-2
+returns-2 c =
+    let s = c .before .before .before .before .before .before .before .before in
+    let k = c .before .before .before .put-plain .ensures in
+    record {
+      is = simp (c .before .before .before .before .before .if1 .left) (λ i. ((c .after .ensures ∙ ap (afterOf (s .args .c)) (k .len)) i, k .buffer i));
+      small = λ _. omega (arith, k .len, k .small);
+    }
+
+pub turn-spec : {M : Type 1} → statement M
+turn-spec =
+    tie.close
+    (tie.spec
+    returns
+    put-plain-requires
+    after-requires
+    same-length
+    returns-2)
