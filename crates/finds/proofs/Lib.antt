@@ -4,3 +4,5 @@ pub mod FindLaws
 pub mod NearestLaws
 -- what is passed, as data
 pub mod Data
+-- the label of one entry, taken out of its list
+pub mod Taken
