@@ -10,7 +10,7 @@ use lib.Dec.{eqb, ltb}
 use lib.IntN.{pos}
 use borrow.Author.Tests.{ne-eqb}
 use Rattle.text.proofs.BoolLaws.{test, or-cases, within-low, within-high}
-use Rattle.text.specs.Ascii.{letter, ascii}
+use Rattle.text.specs.Ascii.{letter}
 use Rattle.text.specs.Blank.{front}
 use Rattle.text.specs.Class.{isDigit, isLetter}
 use Rattle.text.specs.Fields.{same}

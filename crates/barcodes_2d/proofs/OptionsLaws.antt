@@ -2,20 +2,19 @@
 -- of the loop over letters (`taken-step`, `taken-pass`). What the pass takes is in OptionsLastLaws, commas in
 -- OptionsCommaLaws. Assumes nothing.
 use mathlib.Core.Path.{_≡_, refl, sym, ap, _∙_}
-use mathlib.Core.Bool.{Bool, true, false, cond}
+use mathlib.Core.Bool.{Bool, true, false}
 use mathlib.Core.List.{List, [], _∷_}
-use mathlib.Core.Option.{Option, none, some}
-use Prim.Native.Nat.{ℕ, zero, suc, _+_, _-_, _*_, _<_, _≤_}
+use Prim.Native.Nat.{ℕ, _+_, _-_, _*_, _<_, _≤_}
 use native.Mathlib.Numerals.{add-one}
 use native.Mathlib.Omega.{arith}
 use lib.Dec.{ltb}
-use lib.ListN.{length, getD, drop, length-drop, drop-of-length-le}
+use lib.ListN.{length, getD, drop, drop-of-length-le}
 use lib.Seq.{drop-cons, drop-drop}
-use borrow.Author.Tests.{lt-leb, lt-ltb, le-ltb, ltb-true, ltb-false}
-use Rattle.text.proofs.BoolLaws.{test, within-low, within-high}
+use borrow.Author.Tests.{lt-leb, le-ltb, ltb-true, ltb-false}
+use Rattle.text.proofs.BoolLaws.{test, within-high}
 use Rattle.text.specs.Blank.{front}
 use Rattle.text.specs.Class.{isDigit, isLetter}
-use Rattle.numbers.specs.Number.{valueFrom, digitsOf}
+use Rattle.numbers.specs.Number.{valueFrom}
 use Rattle.barcodes_2d.specs.Options.{optionsOf, Setting}
 use Rattle.barcodes_2d.specs.OptionSteps.{valueOf, cap, held, magnitude, aloneOf, ValueAt, taken, allTaken}
 use Rattle.barcodes_2d.specs.declared.options.Options.{Options}

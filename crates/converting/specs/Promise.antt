@@ -1,5 +1,5 @@
--- One label from 203 to 300 dots, told element by element (01, "From 203 to 300 dots"): by the kinds of elements and not
--- by the code's numbers for them.
+-- One label from 203 to 300 dots, told element by element (01, "From 203 to 300 dots"): by the kinds of elements and
+-- not by the code's numbers for them.
 use mathlib.Core.Path.{_≡_}
 use mathlib.Core.List.{List, [], _∷_, _++_}
 use mathlib.Core.Bool.{true, false}
@@ -205,7 +205,8 @@ pub record Resolved (q : EplPrint) (ds : List Drawn) (l n : List Element300) (r 
   pub beyond : (k p : ℕ) → All (λ e. IsGraphic e → ⊥) ds → First Fits300 (λ e. Beyond e k) p ds → Denied k p l n r
   -- "(15 if too short)", last
   pub short : All (λ e. IsGraphic e → ⊥) ds → All Fits300 ds → length l < length ds → Denied 15 (length ds) l n r
-  -- the elements stand from the start of l on, the rest is as it came, and "sets and copies are answered beside the count"
+  -- the elements stand from the start of l on, the rest is as it came, and "sets and copies are answered beside the
+  -- count"
   pub room : All (λ e. IsGraphic e → ⊥) ds → All Fits300 ds → length ds ≤ length l
       → (r ≡ record { number = 0; place = length ds; sets = q .sets; copies = q .copies })
       × (xs : List Element300) × AllTurned ds xs × (n ≡ xs ++ drop (length ds) l)

@@ -1,19 +1,18 @@
 -- Fields joined by commas, taken apart again: by the first comma, and as the list of fields; and a byte that no part of a text has.
 -- Assumes nothing.
 use mathlib.Core.Path.{_≡_, refl, sym, ap, _∙_}
-use mathlib.Core.Bool.{Bool, true, false, cond, true≢false}
 use mathlib.Core.List.{List, [], _∷_, _++_, reverse, reverse-append, reverse-reverse}
-use Prim.Native.Nat.{ℕ, zero, suc, _+_, _<_, _≤_}
+use Prim.Native.Nat.{ℕ, suc, _+_, _<_}
 use native.Mathlib.Nat.{add-zero}
 use native.Mathlib.Omega.{arith}
-use lib.ListN.{length, take, drop, length-append}
+use lib.ListN.{length, drop, length-append}
 use lib.Seq.{take-append-seam, take-all}
-use lib.Dec.{eqb, ltb}
-use borrow.Author.Tests.{eqb-true, eq-eqb, ne-eqb, lt-ltb, le-ltb}
+use lib.Dec.{eqb}
+use borrow.Author.Tests.{eq-eqb, ne-eqb, lt-ltb, le-ltb}
 use Rattle.text.specs.Fields.{indexOf, before, after, beforeLast, quoted, fields, withoutTrailingCommas}
 use Rattle.text.proofs.BoolLaws.{test}
 use Rattle.text.proofs.FieldsLaws.{fields-cons}
-use Rattle.decimals.specs.Joined.{Without, closed, joined}
+use Rattle.decimals.specs.Joined.{Without, closed}
 
 -- Without
 
@@ -69,23 +68,6 @@ fields-closed f s w =
     let l : indexOf 44 (closed f s) < length (closed f s) = simp length-append (omega (arith, index-here 44 f s w)) in
     fields-cons (closed f s)
     ∙ simp (before-here 44 f s w, after-here 44 f s w, lt-ltb (indexOf 44 (closed f s)) (length (closed f s)) l)
-
--- each of some fields is without b
-pub data AllWithout (b : ℕ) : List (List ℕ) → Type 0 where
-  none : AllWithout b []
-  some : {f : List ℕ} {fs : List (List ℕ)} → Without b f → AllWithout b fs → AllWithout b (f ∷ fs)
-
--- the fields of fields joined are those fields
-pub fields-joined : (f : List ℕ) (fs : List (List ℕ)) → Without 44 f → AllWithout 44 fs → fields (joined f fs) ≡ f ∷ fs
-unfolding joined
-fields-joined f [] w none = fields-all f w
-fields-joined f (g ∷ fs) w (some v vs) = fields-closed f (joined g fs) w ∙ ap (λ (l : List (List ℕ)). f ∷ l) (fields-joined g fs v vs)
-
--- and no byte but a comma comes between them
-pub joined-without : (b : ℕ) (f : List ℕ) (fs : List (List ℕ)) → (44 ≡ b → ⊥) → Without b f → AllWithout b fs → Without b (joined f fs)
-unfolding joined
-joined-without b f [] h w none = w
-joined-without b f (g ∷ fs) h w (some v vs) = without-append b f (44 ∷ joined g fs) w (without-cons b 44 (joined g fs) h (joined-without b g fs h v vs))
 
 -- trailing commas: a last field that is closed loses its comma, and no other
 pub trailing-other : (t : List ℕ) (x : ℕ) → (x ≡ 44 → ⊥) → withoutTrailingCommas (t ++ (x ∷ [])) ≡ t ++ (x ∷ [])

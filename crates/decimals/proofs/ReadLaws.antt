@@ -1,13 +1,13 @@
 -- Numbers as they are written, read back: `field-decimal`; and a text that neither starts nor ends with a blank is its own trim.
 -- Assumes nothing.
-use mathlib.Core.Path.{_≡_, refl, sym, ap, _∙_, subst}
+use mathlib.Core.Path.{_≡_, sym, ap, _∙_, subst}
 use mathlib.Core.Bool.{true, false, true≢false}
 use mathlib.Core.List.{List, [], _∷_, _++_, append-assoc}
 use mathlib.Core.Option.{Option, some}
-use Prim.Native.Nat.{ℕ, zero, suc, _+_, _/_, _%_, _<_, _≤_}
+use Prim.Native.Nat.{ℕ, suc, _+_, _/_, _%_, _<_, _≤_}
 use native.Mathlib.Omega.{arith}
 use lib.ListN.{length}
-use lib.Dec.{eqb, ltb}
+use lib.Dec.{ltb}
 use lib.IntN.{ℤ, pos, negsuc}
 use lib.Signed.{mag}
 use borrow.Author.Tests.{lt-ltb, ltb-true, ltb-false, le-leb, lt-leb, ne-eqb}
@@ -105,19 +105,3 @@ spelled (x ∷ s) v l a e h =
 
 pub number-digits : (n : ℕ) → n < 2147483648 → numberSpelled (digits n) ≡ Value (pos n)
 number-digits n h = spelled (digits n) n (digits-some n) (digits-all n) (digits-value n) h
-
--- no comma, quote, LF or blank is in a number
-pub record Clean (s : List ℕ) : Type 0 where
-  pub comma : Without 44 s
-  pub quote : Without 34 s
-  pub lf : Without 10 s
-  pub blank : Without 32 s
-
-pub decimal-clean : (z : ℤ) → Clean (decimal z)
-decimal-clean z =
-    record {
-      comma = decimal-without 44 refl (λ e. omega arith) z;
-      quote = decimal-without 34 refl (λ e. omega arith) z;
-      lf = decimal-without 10 refl (λ e. omega arith) z;
-      blank = decimal-without 32 refl (λ e. omega arith) z;
-    }

@@ -1,7 +1,7 @@
 -- The bytes of a frame (01, "Frames").
 use mathlib.Core.Bool.{Bool, true, false}
 use mathlib.Core.List.{List, [], _∷_, _++_}
-use Prim.Native.Nat.{ℕ, _+_, _/_, _%_}
+use Prim.Native.Nat.{ℕ, _/_, _%_}
 use lib.IntN.{ℤ}
 use lib.Ieee.{Float, binary64, toBits}
 use lib.ListN.{length, take, drop}

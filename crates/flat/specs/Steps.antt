@@ -12,8 +12,8 @@ abbrev pub walkOf : State LabelPosition → WalkState
 walkOf st = record { place = st .place; reference = st .ref; pending = st .pending }
 
 -- "each step answers an element, a clear, a print, the end or a refusal": an element as 1 to 16, a clear as 17, a print
--- as 0 ("00: element count, sets, copies"), the end as 18, a refusal as 255 ("ff, its number (1 byte), its place"); each with its
--- state
+-- as 0 ("00: element count, sets, copies"), the end as 18, a refusal as 255 ("ff, its number (1 byte), its place");
+-- each with its state
 abbrev pub flatOf : EplAnswer → flat.FlatAnswer
 flatOf (element e st) = answered (flatElement e) (walkOf st)
 flatOf (cleared st) = event 17 0 0 (walkOf st)

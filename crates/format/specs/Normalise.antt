@@ -2,7 +2,7 @@
 -- crate `grammar`.
 use mathlib.Core.Path.{_≡_}
 use mathlib.Core.List.{List, _++_}
-use Prim.Native.Nat.{ℕ, _+_, _<_, _≤_}
+use Prim.Native.Nat.{ℕ, _<_, _≤_}
 use lib.ListN.{length, take, drop}
 use Rattle.lines.specs.Lines.{ended}
 use Rattle.elements.specs.Given.{Due, text, within, longest}

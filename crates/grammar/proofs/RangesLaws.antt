@@ -61,7 +61,7 @@ use Rattle.grammar.specs.Units.{EplUnit, block, line, last, number, Stan
 use Rattle.grammar.specs.Ranges as ranges
 use Rattle.grammar.specs.WellFormed.{isRead, atLeast, dataCounted, dataTyped, dataSized, wellFormedAs, wellFormed}
 use Rattle.grammar.specs.Epl.{EplAct, actOf, acts}
-use Rattle.grammar.specs.Ranges.{Signed32, AllFit, OneOut, sums, cell, products, differences, numbersAs, numbersOf, cornerSums, sumsAs, sumsOf, dataSizes, cornerSizes, sizesAs, sizesOf, Beyond, Beyond13, yOf, refAs, refAfter, Role, passes, clears, yields, prints, roleAs, roleOf, Does}
+use Rattle.grammar.specs.Ranges.{Signed32, AllFit, OneOut, sums, cell, products, differences, numbersAs, numbersOf, cornerSums, sumsAs, sumsOf, dataSizes, cornerSizes, sizesAs, sizesOf, Beyond, yOf, refAs, refAfter, Role, passes, clears, yields, prints, roleAs, roleOf, Does}
 use Rattle.grammar.proofs.LineFaultsLaws.{faultless}
 use Rattle.grammar.proofs.Barcode2dTypeLaws.{isListed2d, isQr, typed-2d}
 
@@ -92,10 +92,6 @@ clash (z ∷ zs) a (inr o) = clash zs (a .1) o
 all-append : (xs ys : List ℤ) → AllFit xs → AllFit ys → AllFit (xs ++ ys)
 all-append [] ys a b = b
 all-append (x ∷ xs) ys a b = (a .0, all-append xs ys (a .1) b)
-
-all-split : (xs ys : List ℤ) → AllFit (xs ++ ys) → AllFit xs × AllFit ys
-all-split [] ys a = (tt, a)
-all-split (x ∷ xs) ys a = let k = all-split xs ys (a .1) in ((a .0, k .0), k .1)
 
 out-left : (xs ys : List ℤ) → OneOut xs → OneOut (xs ++ ys)
 out-left [] ys o = absurd o
@@ -377,9 +373,6 @@ numbers-are r (line t) = numbers-as (commandOf (trim t)) (trim t) r
 numbers-are r (last t) = numbers-as (commandOf (trim t)) (trim t) r
 
 module _ (r : LabelPosition) (u : EplUnit) where
-  fit-both : AllFit (numbersOf r u) → AllFit (sumsOf r u) × AllFit (sizesOf u)
-  fit-both a = all-split (sumsOf r u) (sizesOf u) (subst AllFit (numbers-are r u) a)
-
   both-fit : AllFit (sumsOf r u) → AllFit (sizesOf u) → AllFit (numbersOf r u)
   both-fit a b = subst AllFit (sym (numbers-are r u)) (all-append (sumsOf r u) (sizesOf u) a b)
 

@@ -2,7 +2,7 @@
 -- within the string (`size-bad`, `size-fits`). Assumes nothing.
 use mathlib.Core.Path.{_≡_, refl, sym, ap, _∙_}
 use mathlib.Core.List.{List, [], _∷_, _++_}
-use Prim.Native.Nat.{ℕ, suc, _+_, _<_, _≤_}
+use Prim.Native.Nat.{ℕ, suc, _<_, _≤_}
 use native.Mathlib.Numerals.{add-one}
 use native.Mathlib.Omega.{arith}
 use lib.Dec.{ltb}
@@ -20,7 +20,7 @@ use Rattle.graphics.specs.declared.gw_span.Graphic.the-variants as graphic
 use Rattle.graphics.specs.declared.gw_span.GwSpan.{GwSpan}
 use Rattle.graphics.specs.Block.{gwSpan}
 use Rattle.graphics.proofs.BlockLaws.{span-fits}
-use Rattle.whole.specs.Language.{none, bad, unit}
+use Rattle.whole.specs.Language.{bad, unit}
 use Rattle.whole.proofs.DivisionLaws.{bad≢unit, bad≢none, as-unit, none≢unit}
 use Rattle.grammar.specs.Units.{EplUnit, line, bytes, notLf}
 use Rattle.grammar.specs.Found.{lineBy, textLine, found, first}

@@ -19,7 +19,6 @@ use Rattle.text.specs.Fields.{indexOf, before, same}
 use Rattle.text.proofs.BoolLaws.{test, and-both}
 use Rattle.text.proofs.DropLaws.{drop-while-le}
 use Rattle.text.proofs.FieldsLaws.{same-length, same-true}
-use Rattle.numbers.specs.Number.{numberSpelled}
 use Rattle.parameters.specs.Params.{numberAt}
 use Rattle.elements.specs.declared.refusal.Refusal.{Refusal}
 use Rattle.elements.specs.declared.refusal.Refusal.the-variants as refusal

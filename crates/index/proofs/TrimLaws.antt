@@ -9,7 +9,7 @@ use lib.Dec.{eqb, ltb}
 use lib.ListN.{length, length-append, take, getD, length-reverse}
 use lib.Seq.{getD-take, getD-append-add, length-take-le}
 use borrow.Author.Tests.{eqb-true, ltb-true, ltb-false}
-use Rattle.text.specs.Blank.{isBlank1, isBlank, sizeOf, back, trimEnd}
+use Rattle.text.specs.Blank.{isBlank, sizeOf, back, trimEnd}
 use Rattle.text.specs.Utf8.{within}
 use Rattle.text.proofs.BoolLaws.{or-cases, test, within-low, within-high}
 use Rattle.text.proofs.BlankLaws.{blank2-two, blank3-three}

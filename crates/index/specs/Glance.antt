@@ -53,8 +53,8 @@ glanceOf rest =
     untold
 
 -- ---- inner: so many such lines in a row
--- w′ stands behind lines from w on that are told so: where no more is pending than before it, and one too many, the next
--- entry is the same from there
+-- w′ stands behind lines from w on that are told so: where no more is pending than before it, and one too many, the
+-- next entry is the same from there
 pub record Past (s : List ℕ) (w w′ : WalkState) : Type 0 where
   pub within : Within s (w′ .place) (w′ .reference)
   pub some : 0 < w′ .pending

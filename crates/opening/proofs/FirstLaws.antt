@@ -16,8 +16,8 @@ use Rattle.elements.specs.declared.LabelElement.{LabelElement}
 use Rattle.elements.specs.declared.refusal.Refusal.the-variants.{InputTooLong, StateOutside, NoSuchLabel}
 use Rattle.elements.specs.declared.walk_state.WalkState.{WalkState}
 use Rattle.whole.specs.Trace.{stops, refuses, yields, clears, prints, lead, after}
-use Rattle.whole.specs.Index.{Opening, denies, firstIn, openingBy, openingFound, opening}
-use Rattle.grammar.specs.Epl.{EplPrint, epl}
+use Rattle.whole.specs.Index.{denies, firstIn, openingBy, openingFound, opening}
+use Rattle.grammar.specs.Epl.{epl}
 use Rattle.walk.specs.Steps.{EplTrace, traceOf}
 use Rattle.index.specs.Entries.{entryOf, entriesOf, noEntry}
 use Rattle.index.specs.declared.entry.LabelEntry.{LabelEntry}

@@ -1,4 +1,5 @@
--- Opening one label (01, "The label index"): what is due to `open_label`, the label's lines of the listing or a refusal.
+-- Opening one label (01, "The label index"): what is due to `open_label`, the label's lines of the listing or a
+-- refusal.
 use mathlib.Core.Path.{_≡_}
 use mathlib.Core.Bool.{cond, _||_}
 use mathlib.Core.List.{List, []}

@@ -1,5 +1,4 @@
 // One label's lines of the listing. Only its own bytes of the file are walked.
-ghost use mathlib.Core.Path.{_≡_};
 ghost use Rattle.elements.specs.Given.{Fills, givenOf};
 ghost use Rattle.opening.specs.Opened.{dueOf, firstDue, entryDue, Finds};
 use crate::start::Start;

@@ -1,8 +1,7 @@
 -- Inner: the parameter part s as readers read it, from its front and by places. No claim rests on these: what
 -- commands say is put by fields and their values (`field`, `FieldValues`), and the k-th field is the first of what
 -- follows k commas.
-use mathlib.Core.Path.{_≡_}
-use Prim.Native.Nat.{ℕ, _+_, _-_, _<_, _≤_}
+use Prim.Native.Nat.{ℕ, _-_}
 use mathlib.Core.Bool.{Bool, _&&_}
 use mathlib.Core.List.{List}
 use lib.Dec.{eqb}

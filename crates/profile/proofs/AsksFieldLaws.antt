@@ -1,14 +1,14 @@
 -- What is said of fields by their rules is what is asked of them: of one field (`judge-field`), and of several, first
 -- field first (`judge-then`); and what is met is not objected to (`meets-fine`). Assumes nothing.
 use mathlib.Core.Path.{_≡_, refl, sym, ap, subst, _∙_}
-use mathlib.Core.Bool.{Bool, true, false, cond, _&&_, _||_, true≢false, false≢true}
-use mathlib.Core.List.{List, [], _∷_}
+use mathlib.Core.Bool.{Bool, true, false, _||_, true≢false, false≢true}
+use mathlib.Core.List.{List, _∷_}
 use mathlib.Core.Logic.{_⊎_, inl, inr}
-use Prim.Native.Nat.{ℕ, _≤_}
+use Prim.Native.Nat.{ℕ}
 use native.Mathlib.Omega.{arith}
 use lib.Dec.{eqb, leb}
 use lib.IntN.{ℤ, pos, negsuc}
-use borrow.Author.Tests.{eqb-true, leb-true, le-leb, eq-eqb}
+use borrow.Author.Tests.{eqb-true, leb-true, le-leb}
 use Rattle.text.specs.Ascii.{letter}
 use Rattle.text.proofs.BoolLaws.{test, or-cases, and-both}
 use Rattle.numbers.specs.Int.{eqZ}

@@ -2,19 +2,18 @@
 -- so of a unit (`unit-judges`). Assumes nothing.
 use mathlib.Core.Path.{_≡_, refl, sym, ap, subst, _∙_}
 use mathlib.Core.Bool.{Bool, true, false, not, true≢false, false≢true}
-use mathlib.Core.List.{List, [], _∷_, _++_, append-nil, append-assoc}
+use mathlib.Core.List.{List, [], _∷_, _++_, append-assoc}
 use Prim.Native.Nat.{ℕ, suc, _+_, _*_, _≤_, zero-le}
 use native.Mathlib.Omega.{arith}
-use lib.Dec.{eqb, ltb}
-use lib.IntN.{ℤ, pos}
+use lib.Dec.{eqb}
+use lib.IntN.{pos}
 use lib.ListN.{length, take, drop, length-append}
-use lib.Seq.{take-append-seam, drop-append-seam}
-use borrow.Author.Tests.{eq-eqb, ne-eqb, eqb-true, eqb-false, le-ltb}
-use Rattle.text.specs.Ascii.{letter, ascii}
+use lib.Seq.{take-append-seam}
+use borrow.Author.Tests.{eqb-true, eqb-false, le-ltb}
+use Rattle.text.specs.Ascii.{letter}
 use Rattle.text.specs.Blank.{front, trim}
 use Rattle.text.specs.Fields.{indexOf, before, after}
-use Rattle.text.proofs.BoolLaws.{test, and-both}
-use Rattle.text.proofs.FieldsLaws.{index-le}
+use Rattle.text.proofs.BoolLaws.{test}
 use Rattle.spelling.specs.declared.command.Command.{Command}
 use Rattle.spelling.specs.declared.command.Command.the-variants.{Clear, Reference, Data, Line, Diagonal, Box, Print, Other}
 use Rattle.spelling.specs.declared.command.DataCommand.{DataCommand}
@@ -26,8 +25,8 @@ use Rattle.graphics.specs.declared.gw_span.GwNumbers.{GwNumbers}
 use Rattle.graphics.specs.Block.{inField, headerOf, measured, gwSpan}
 use Rattle.commands.specs.Line.{paramsOf}
 use Rattle.grammar.specs.LineFaults.{LineFault}
-use Rattle.grammar.specs.Units.{Header, EplUnit, block, line, last, bytes, All, all-nil, all-cons, notLf, closed, gw, number, Opens, Stands}
-use Rattle.grammar.specs.WellFormed.{atLeast, isRead, dataCounted, counted, typed, sized, asksNothing, wellFormedAs, wellFormed, faultAs, faultOf, countFault, typeFault}
+use Rattle.grammar.specs.Units.{Header, EplUnit, block, line, last, bytes, All, all-nil, all-cons, notLf, closed, gw, Opens, Stands}
+use Rattle.grammar.specs.WellFormed.{atLeast, isRead, dataCounted, counted, typed, asksNothing, wellFormed, faultAs, faultOf, countFault, typeFault}
 use Rattle.grammar.specs.Faults.{FirstLine, Headed}
 use Rattle.grammar.proofs.LineFaultsLaws.{ill-has-fault, fault-is-ill}
 use Rattle.grammar.proofs.UnitsOpensLaws.{not-opens, opens-not}
@@ -37,7 +36,7 @@ use Rattle.grammar.proofs.FaultsLaws.{line-of, front-is, opens-first, headed-sp
 use Rattle.profile.specs.declared.rule.Held.{Held}
 use Rattle.profile.specs.declared.rule.Objection.{Objection}
 use Rattle.profile.specs.declared.rule.Objection.the-variants.{Fine, To}
-use Rattle.profile.specs.Profile.{numberOf, kindOf, allowed, ruled, rulesFrom, byRules, ifCounted, dataRules, lineRules, cornerRules, blockRules, referenceObjection, dataObjection, quotedObjection, commandObjection, lineObjection, objectionBy, objection}
+use Rattle.profile.specs.Profile.{numberOf, kindOf, allowed, ruled, rulesFrom, byRules, ifCounted, dataRules, lineRules, cornerRules, blockRules, referenceObjection, quotedObjection, commandObjection, lineObjection, objectionBy, objection}
 use Rattle.profile.specs.Asks.{Rule, any, width, ask, nth, dataAsks, sideAsks, cornerAsks, yAsk, headerAsks, asksAs, asksOf, Ask, FirstAmiss, here, Asked, of-line, of-block}
 use Rattle.profile.proofs.AsksFieldLaws.{Judges, Judges1, judge-then, judge-field, Letter, any-letter, rotation-letter, font-letter, horizontal-letter, vertical-letter, width-letter}
 

@@ -2,7 +2,7 @@
 -- divides where the plain one does and every field is as the profile asks (`strict-divides`, `divides-strict`); 17 and 18
 -- tell the first field that is not (`fails-objected`). Assumes nothing.
 use mathlib.Core.Path.{_≡_, refl, sym, ap, subst, _∙_}
-use mathlib.Core.List.{List, [], _∷_, _++_}
+use mathlib.Core.List.{List, [], _++_}
 use mathlib.Core.Logic.{_⊎_, inl, inr}
 use mathlib.Core.Option.{Option, none, some}
 use Prim.Native.Nat.{ℕ, _+_, _≤_}
@@ -32,7 +32,7 @@ use Rattle.profile.specs.declared.rule.Held.the-variants as held
 use Rattle.profile.specs.declared.rule.Objection.{Objection}
 use Rattle.profile.specs.declared.rule.Objection.the-variants.{Fine, To}
 use Rattle.profile.specs.Profile.{numberOf, kindOf, lineObjection, objection}
-use Rattle.profile.specs.Asks.{Ask, asksOf, AllMeet, InProfile, Asked, FirstAmiss, Objected, amiss, behind}
+use Rattle.profile.specs.Asks.{asksOf, AllMeet, InProfile, FirstAmiss, Objected, amiss, behind}
 use Rattle.profile.specs.Strict.{numbered, profile, strict, Own}
 use Rattle.profile.proofs.AsksFieldLaws.{Judges, meets-fine}
 use Rattle.profile.proofs.AsksLaws.{asked-judges, objection-asked, unit-judges}

@@ -67,18 +67,18 @@ nth s k q = ask (suc k) q (field s k)
 
 -- "every number field that has a default":
 -- "`A`: x, y, rotation, font, horizontal multiplier, vertical multiplier, .."; "`B`: x, y, rotation, type, narrow bar,
--- wide bar, height, .."; "`b`: x, y, ..": "Parameters of `b` past its type are exempt"
+-- wide bar, bar height, .."; "`b`: x, y, ..": "Parameters of `b` past its type are exempt"
 abbrev pub dataAsks : DataCommand → List ℕ → List Ask
 dataAsks Text s =
     nth s 0 any ∷ nth s 1 any ∷ nth s 2 rotation ∷ nth s 3 font ∷ nth s 4 horizontal ∷ nth s 5 vertical ∷ []
 dataAsks Barcode s = nth s 0 any ∷ nth s 1 any ∷ nth s 2 rotation ∷ nth s 4 any ∷ nth s 5 any ∷ nth s 6 any ∷ []
 dataAsks Barcode2d s = nth s 0 any ∷ nth s 1 any ∷ []
 
--- "`LO`, `LW` and `LE`: x, y, width, height"
+-- "`LO` (black), `LW` (white) and `LE` (exclusive-OR): x, y, width, height"
 abbrev pub sideAsks : List ℕ → List Ask
 sideAsks s = nth s 0 any ∷ nth s 1 any ∷ nth s 2 any ∷ nth s 3 any ∷ []
 
--- "`LS` and `X`: x1, y1, thickness, x2, y2"
+-- "`LS` and `X` (black): x1, y1, thickness, x2, y2"
 abbrev pub cornerAsks : List ℕ → List Ask
 cornerAsks s = nth s 0 any ∷ nth s 1 any ∷ nth s 2 any ∷ nth s 3 any ∷ nth s 4 any ∷ []
 
@@ -87,7 +87,7 @@ abbrev pub yAsk : List ℕ → List Ask
 yAsk [] = []
 yAsk (b ∷ s) = cond (eqb b 44) (ask 2 any s ∷ []) (yAsk s)
 
--- "`GW`: x, y, width in bytes, lines"
+-- "`GW`: x, y, width in bytes (the row bytes), lines"
 abbrev pub headerAsks : Header → List Ask
 headerAsks h = ask 1 any (h .x) ∷ ask 2 any (h .y) ∷ ask 3 width (h .width) ∷ ask 4 any (h .lines) ∷ []
 

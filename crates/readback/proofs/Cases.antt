@@ -1,10 +1,10 @@
--- One element of each kind as it is written, and the two boxes of 02's rule for `X`, by computation. No two numbers of an
--- element are the same. Assumes nothing.
+-- One element of each kind as it is written, and the two boxes of the rule for `X` (01, "Writing EPL"), by computation.
+-- No two numbers of an element are the same. Assumes nothing.
 use mathlib.Core.Path.{_≡_, refl}
 use mathlib.Core.Bool.{true, false}
 use mathlib.Core.List.{List, [], _∷_}
 use Prim.Native.Nat.{ℕ}
-use lib.Ieee.{Float, binary64, ofInt}
+use lib.Ieee.{binary64, ofInt}
 use lib.IntN.{pos, negsuc}
 use Rattle.text.specs.Ascii.{ascii, spelt}
 use Rattle.elements.specs.declared.BarcodeMode.the-variants.{Ucc, Automatic, Ean}

@@ -1,19 +1,19 @@
 -- What a call is due: a text that is read back (`due-read`, `due-reread`), or 23, and that for exactly the elements
 -- that nothing yields (`due-exact`). Assumes nothing.
-use mathlib.Core.Path.{_≡_, refl, sym, ap, _∙_}
-use mathlib.Core.Bool.{Bool, true, false, cond, _||_, true≢false}
+use mathlib.Core.Path.{_≡_, refl, sym}
+use mathlib.Core.Bool.{Bool, true, false, _||_, true≢false}
 use mathlib.Core.List.{List, [], _∷_}
 use Prim.Native.Nat.{ℕ, zero, suc, _<_, _≤_}
 use native.Mathlib.Omega.{arith}
 use lib.Dec.{eqb, ltb}
-use borrow.Author.Tests.{ltb-false, ltb-true, eqb-false, le-leb, leb-true, le-ltb}
-use lib.IntN.{ℤ, pos, negsuc}
+use borrow.Author.Tests.{ltb-false, eqb-false, le-ltb}
+use lib.IntN.{pos}
 use lib.ListN.{length}
-use lib.Signed.{ltZ, leZ, mag}
+use lib.Signed.{ltZ, mag}
 use Rattle.text.proofs.BoolLaws.{test}
 use Rattle.elements.specs.declared.LabelElement.{LabelElement}
 use Rattle.elements.specs.declared.PrintCounts.{PrintCounts}
-use Rattle.elements.specs.Given.{Due, text, denied, longest}
+use Rattle.elements.specs.Given.{text, denied, longest}
 use Rattle.spellings.specs.Spelled.{spell, spellLabel}
 use Rattle.spellings.specs.Writable.{writable}
 use Rattle.spellings.specs.Due.{elementDue, firstBad, noLabel, labelDue}

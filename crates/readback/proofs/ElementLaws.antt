@@ -1,8 +1,8 @@
 -- Every writable element: its units stand, and make it pending (`element-makes`). Assumes nothing.
-use mathlib.Core.Path.{_≡_, refl, ap, _∙_}
+use mathlib.Core.Path.{_≡_, refl, ap}
 use mathlib.Core.Bool.{true, _&&_, false}
 use mathlib.Core.List.{List, [], _∷_, _++_}
-use Prim.Native.Nat.{ℕ, _+_, _<_, _≤_}
+use Prim.Native.Nat.{ℕ, _<_, _≤_}
 use native.Mathlib.Omega.{arith}
 use lib.Dec.{leb}
 use lib.Ieee.{Float}
@@ -16,7 +16,6 @@ use Rattle.elements.specs.declared.DataSpan.{DataSpan}
 use Rattle.elements.specs.declared.GraphicField.{GraphicField}
 use Rattle.elements.specs.declared.LabelElement.{LabelElement}
 use Rattle.elements.specs.declared.LabelElement.the-variants as element
-use Rattle.elements.specs.declared.plain.Data.the-variants as of
 use Rattle.elements.specs.Given.{longest}
 use Rattle.elements.specs.Plain.{extent, bars, plainOf}
 use Rattle.elements.specs.Spans.{In}

@@ -1,7 +1,7 @@
 -- What a line or a block yields at reference 0,0 is writable: 23 is given for no other element
 -- (`yieldable-writable`). Assumes nothing.
 use mathlib.Core.Path.{_≡_, refl, sym, ap, _∙_, subst}
-use mathlib.Core.Bool.{Bool, true, false, cond, _&&_, _||_, true≢false}
+use mathlib.Core.Bool.{Bool, true, false, _&&_, _||_, true≢false}
 use mathlib.Core.List.{List, [], _∷_, _++_, map}
 use Prim.Native.Nat.{ℕ, zero, suc, _+_, _-_, _*_, _%_, _<_, _≤_}
 use native.Mathlib.Omega.{arith}
@@ -11,7 +11,7 @@ use lib.ListN.{length, take, drop, length-take, length-drop, take-append-drop, d
 use lib.Seq.{drop-append-le, take-append-le, length-take-le}
 use lib.IntN.{ℤ, pos, natAbs}
 use lib.Signed.{leZ}
-use borrow.Author.Tests.{eqb-true, eq-eqb, ne-eqb, lt-ltb, le-leb, leb-true, eqb-false}
+use borrow.Author.Tests.{eq-eqb, lt-ltb, le-leb, leb-true}
 use Rattle.text.specs.Blank.{trimStart, trim}
 use Rattle.text.specs.Fields.{indexOf, after, quoted, beforeLast}
 use Rattle.text.proofs.BoolLaws.{test, and-both}

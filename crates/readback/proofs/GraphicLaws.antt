@@ -1,16 +1,16 @@
 -- A graphic that is written: its block stands, and yields it. Assumes nothing.
-use mathlib.Core.Path.{_≡_, refl, sym, ap, _∙_, subst}
-use mathlib.Core.Bool.{Bool, true, false, cond, not, _&&_, _||_, true≢false}
+use mathlib.Core.Path.{_≡_, refl, sym, ap, _∙_}
+use mathlib.Core.Bool.{true, _&&_, _||_, true≢false}
 use mathlib.Core.List.{List, [], _∷_, _++_, append-assoc}
-use Prim.Native.Nat.{ℕ, zero, suc, _+_, _*_, _/_, _%_, _<_, _≤_}
+use Prim.Native.Nat.{ℕ, suc, _+_, _*_, _/_, _%_, _<_, _≤_}
 use native.Mathlib.Nat.{div-add-mod', div-le-self, mul-comm, mul-zero}
 use native.Mathlib.Omega.{arith}
-use lib.Dec.{eqb, leb, ltb}
+use lib.Dec.{eqb, ltb}
 use lib.ListN.{length, take, drop, length-take, length-drop}
 use lib.Seq.{drop-append-seam, take-all}
 use lib.IntN.{ℤ, pos, negsuc, natAbs}
-use lib.Signed.{mag, leZ}
-use borrow.Author.Tests.{eqb-true, ltb-true, leb-true, ne-eqb, eqb-false}
+use lib.Signed.{leZ}
+use borrow.Author.Tests.{eqb-true, ltb-true, leb-true, ne-eqb}
 use Rattle.text.specs.Fields.{indexOf}
 use Rattle.text.proofs.BoolLaws.{test, and-both, or-cases}
 use Rattle.elements.specs.declared.GraphicField.{GraphicField}

@@ -4,9 +4,9 @@ use mathlib.Core.Path.{_≡_, refl, sym, ap, _∙_, subst}
 use mathlib.Core.Bool.{Bool, true, false, _&&_, _||_, true≢false}
 use mathlib.Core.List.{List, [], _∷_, _++_, map, append-assoc, append-nil}
 use lib.ListN.{length, length-map}
-use Prim.Native.Nat.{ℕ, zero, suc, _+_, _<_, _≤_}
+use Prim.Native.Nat.{ℕ, suc, _+_, _<_, _≤_}
 use native.Mathlib.Omega.{arith}
-use lib.Dec.{eqb, leb, ltb}
+use lib.Dec.{ltb}
 use borrow.Author.Tests.{lt-ltb}
 use lib.IntN.{ℤ, pos, negsuc}
 use lib.Signed.{leZ, mag}
@@ -38,7 +38,7 @@ use Rattle.whole.proofs.RunLaws.{before-nil, run-goes}
 use Rattle.whole.proofs.SolidLaws.{each-append, solid-append, solid-divides}
 use Rattle.whole.proofs.StepLaws.{step-act}
 use Rattle.grammar.specs.WellFormed.{wellFormed}
-use Rattle.grammar.specs.Units.{EplUnit, block, line, bytes, all-nil, all-cons, Command}
+use Rattle.grammar.specs.Units.{EplUnit, line, bytes, all-nil, all-cons, Command}
 use Rattle.grammar.specs.Epl.{origin, acts, epl}
 use Rattle.grammar.proofs.EplLaws.{inside}
 use Rattle.grammar.proofs.FoundLaws.{reads}

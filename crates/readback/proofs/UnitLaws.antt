@@ -1,14 +1,14 @@
 -- One element that is written as a line: the line stands, and yields the element. Graphics are in GraphicLaws.
 -- Assumes nothing.
-use mathlib.Core.Path.{_≡_, refl, sym, ap, _∙_, subst}
+use mathlib.Core.Path.{_≡_, refl, sym, _∙_}
 use mathlib.Core.Bool.{Bool, true, false, cond, _&&_}
 use mathlib.Core.List.{List, [], _∷_, _++_}
 use Prim.Native.Nat.{ℕ, suc, _+_, _<_, _≤_}
 use native.Mathlib.Omega.{arith}
-use lib.Dec.{eqb, leb, ltb}
+use lib.Dec.{eqb, ltb}
 use lib.ListN.{length}
 use lib.IntN.{ℤ, pos, _+ℤ_}
-use lib.Signed.{mag, leZ}
+use lib.Signed.{leZ}
 use borrow.Author.Tests.{eqb-true, ltb-true, leb-true}
 use Rattle.text.specs.Fields.{indexOf}
 use Rattle.text.proofs.BoolLaws.{test, and-both}

@@ -1,14 +1,14 @@
 -- Bounds of what the readers answer: numbers within 32 bits, sizes at least 1, clamped numbers within their limits. Assumes nothing.
-use mathlib.Core.Path.{_≡_, refl, sym, ap, _∙_, subst}
-use mathlib.Core.Bool.{Bool, true, false, cond, true≢false, _&&_, _||_}
+use mathlib.Core.Path.{_≡_, refl}
+use mathlib.Core.Bool.{Bool, true, false, cond, true≢false, _&&_}
 use mathlib.Core.List.{List, [], _∷_}
 use mathlib.Core.Option.{Option, none, some}
-use Prim.Native.Nat.{ℕ, zero, suc, _+_, _-_, _*_, _<_, _≤_}
+use Prim.Native.Nat.{ℕ}
 use native.Mathlib.Omega.{arith}
-use lib.Dec.{eqb, leb, ltb}
-use lib.IntN.{ℤ, pos, negsuc, negℤ, natAbs, _+ℤ_, _-ℤ_}
+use lib.Dec.{eqb, ltb}
+use lib.IntN.{ℤ, pos, negsuc, negℤ}
 use lib.Signed.{mag, leZ, ltZ}
-use borrow.Author.Tests.{ltb-true, ltb-false, le-leb, leb-true, lt-ltb}
+use borrow.Author.Tests.{ltb-true, ltb-false, le-leb}
 use Rattle.text.proofs.BoolLaws.{test}
 use Rattle.numbers.specs.Int.{in32, maxZ}
 use Rattle.numbers.specs.Number.{digitsOf, ranged, signed, numberSpelled, numberOr, fieldOr}

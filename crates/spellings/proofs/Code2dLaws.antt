@@ -1,13 +1,13 @@
 -- 2D bar codes as they are written, read back at reference 0,0: their options, then the whole line.
 -- Assumes nothing.
-use mathlib.Core.Path.{_≡_, refl, sym, ap, _∙_, subst}
-use mathlib.Core.Bool.{Bool, true, false, cond, true≢false, _&&_, _||_}
-use mathlib.Core.List.{List, [], _∷_, _++_}
-use Prim.Native.Nat.{ℕ, suc, _+_, _<_, _≤_}
+use mathlib.Core.Path.{_≡_, refl, sym, ap, _∙_}
+use mathlib.Core.Bool.{Bool, true, false, true≢false, _&&_, _||_}
+use mathlib.Core.List.{List, [], _∷_}
+use Prim.Native.Nat.{ℕ, _<_, _≤_}
 use native.Mathlib.Omega.{arith}
 use lib.ListN.{length}
-use lib.IntN.{ℤ, pos, negsuc, natAbs}
-use lib.Signed.{mag, leZ}
+use lib.IntN.{ℤ, pos, negsuc}
+use lib.Signed.{leZ}
 use borrow.Author.Tests.{le-leb, le-ltb}
 use Rattle.text.specs.Blank.{trim}
 use Rattle.text.specs.Fields.{same, before, after, fields}

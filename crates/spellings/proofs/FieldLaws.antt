@@ -1,13 +1,12 @@
 -- A parameter part spelled by numbers, read field by field: each number is the one given.
 -- Assumes nothing.
-use mathlib.Core.Path.{_≡_, refl, sym, ap, _∙_, subst}
-use mathlib.Core.Bool.{true, false}
-use mathlib.Core.List.{List, [], _∷_, _++_, map}
-use Prim.Native.Nat.{ℕ, suc, _+_, _<_, _≤_}
+use mathlib.Core.Path.{_≡_, refl, ap, _∙_}
+use mathlib.Core.Bool.{true}
+use mathlib.Core.List.{List, [], _∷_, map}
+use Prim.Native.Nat.{ℕ, _<_}
 use native.Mathlib.Omega.{arith}
-use lib.ListN.{length}
-use lib.IntN.{ℤ, pos, negsuc, _+ℤ_, +ℤ-idr}
-use lib.Signed.{mag, leZ, ltZ}
+use lib.IntN.{ℤ, pos, negsuc, +ℤ-idr}
+use lib.Signed.{mag, leZ}
 use borrow.Author.Tests.{leb-true, le-ltb}
 use Rattle.text.specs.Fields.{after, fields, before}
 use Rattle.numbers.specs.Int.{maxZ}

@@ -1,10 +1,10 @@
 -- Texts as they are written, read back with their sizes, and which sizes texts have. Assumes nothing.
 use mathlib.Core.Path.{_≡_, refl, sym, ap, _∙_, subst}
-use mathlib.Core.Bool.{Bool, true, false, cond, _&&_, true≢false}
+use mathlib.Core.Bool.{Bool, true, _&&_, true≢false}
 use mathlib.Core.List.{List}
 use Prim.Native.Nat.{ℕ, _<_}
 use native.Mathlib.Omega.{arith}
-use lib.Dec.{T, eqb, ltb}
+use lib.Dec.{T}
 use lib.IntN.{ℤ, pos, _*ℤ_}
 use lib.Ieee.{Float, binary64, toBits, ofBits, ofInt, div, lt, fits}
 use lib.Ieee.Bits.{ofBits-toBits, ofBits-fits}
@@ -20,8 +20,6 @@ use Rattle.elements.specs.declared.FieldOrientation.{FieldOrientation}
 use Rattle.elements.specs.declared.FontInfo.{FontInfo}
 use Rattle.elements.specs.declared.LabelElement.the-variants as element
 use Rattle.elements.specs.declared.LabelPosition.{LabelPosition}
-use Rattle.elements.specs.declared.refusal.Refusal.the-variants as refusal
-use Rattle.parameters.specs.declared.position.Placed.the-variants as placing
 use Rattle.parameters.specs.declared.reading.LineReading.the-variants as reading
 use Rattle.parameters.specs.Rotation.{rotationOf}
 use Rattle.texts.specs.declared.fonts.Scaled.{Scaled}

@@ -1,14 +1,13 @@
 -- Options as they are written, read back one by one. Assumes nothing.
 use mathlib.Core.Path.{_≡_, refl, sym, ap, _∙_, subst}
-use mathlib.Core.Bool.{Bool, true, false, cond, true≢false, _&&_}
+use mathlib.Core.Bool.{true, false, true≢false}
 use mathlib.Core.List.{List, [], _∷_, _++_, append-nil}
-use Prim.Native.Nat.{ℕ, suc, _+_, _<_, _≤_}
+use Prim.Native.Nat.{ℕ, _<_, _≤_}
 use native.Mathlib.Omega.{arith}
 use lib.ListN.{length}
 use lib.IntN.{ℤ, pos, negsuc, natAbs}
-use lib.Signed.{mag, leZ, ltZ}
-use lib.Dec.{leb, ltb}
-use borrow.Author.Tests.{lt-leb, le-leb, le-ltb, leb-true, ltb-false, ltb-true}
+use lib.Signed.{leZ, ltZ}
+use borrow.Author.Tests.{lt-leb, le-leb, le-ltb, leb-true, ltb-false}
 use Rattle.text.specs.Utf8.{within}
 use Rattle.text.specs.Blank.{front}
 use Rattle.text.specs.Class.{isDigit, isLetter, allDigits}

@@ -1,14 +1,14 @@
 -- Texts and bar codes that lines yield have the numbers of writable ones. Assumes nothing.
-use mathlib.Core.Path.{_≡_, refl, sym, ap, _∙_, subst}
-use mathlib.Core.Bool.{Bool, true, false, cond, true≢false, _&&_, _||_}
+use mathlib.Core.Path.{_≡_, refl, sym}
+use mathlib.Core.Bool.{Bool, true, false, true≢false, _&&_, _||_}
 use mathlib.Core.List.{List, [], _∷_}
 use mathlib.Core.Option.{Option, none, some}
-use Prim.Native.Nat.{ℕ, zero, suc, _+_, _*_, _<_, _≤_}
+use Prim.Native.Nat.{ℕ, _*_}
 use native.Mathlib.Omega.{arith}
 use lib.Dec.{eqb, leb, ltb}
 use lib.ListN.{length, take}
 use lib.IntN.{ℤ, pos, negsuc, _*ℤ_}
-use lib.Signed.{mag, leZ, ltZ}
+use lib.Signed.{leZ}
 use borrow.Author.Tests.{le-leb, leb-true, ne-eqb}
 use Rattle.text.specs.Blank.{front, trim}
 use Rattle.text.specs.Class.{isDigit, isLetter}

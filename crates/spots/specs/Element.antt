@@ -1,5 +1,4 @@
 -- What lies where on a label (01, "What lies where"): its elements, numbered from 0 in file order.
-use mathlib.Core.Path.{_≡_}
 use mathlib.Core.Bool.{Bool, false, cond}
 use mathlib.Core.List.{List, [], _∷_}
 use Prim.Native.Nat.{ℕ, suc, _<_, _≤_}

@@ -23,7 +23,7 @@ pub fn is_turned(r: Rectangle) -> bool
 }
 
 // A position in a rectangle.
-pub fn is_inside(p: LabelPosition, r: Rectangle) -> bool
+pub(crate) fn is_inside(p: LabelPosition, r: Rectangle) -> bool
     ensures { λ b. ⌜ b ≡ isInside p r ⌝ }
 {
     ((r.x1 <= p.x) & (p.x <= r.x2)) & ((r.y1 <= p.y) & (p.y <= r.y2))

@@ -1,22 +1,21 @@
 -- The look at the units that the plain walk has read: one turn of its loop (`further`, `stopped`, `at-end`), and that it
 -- gives the verdict of the strict walk (`look-checks`, `long-checks`). Assumes nothing.
 use mathlib.Core.Path.{_≡_, refl, sym, ap, subst, _∙_}
-use mathlib.Core.Bool.{Bool, true, false, cond, _||_}
-use mathlib.Core.List.{List, []}
+use mathlib.Core.Bool.{Bool, true, false, cond}
+use mathlib.Core.List.{List}
 use mathlib.Core.Logic.{_⊎_, inl, inr}
 use Prim.Native.Nat.{ℕ, zero, suc, _+_, _-_, _<_, _≤_}
 use native.Mathlib.Omega.{arith}
 use native.Mathlib.Numerals.{add-one}
-use lib.Dec.{eqb, ltb}
+use lib.Dec.{ltb}
 use lib.ListN.{length, drop, length-drop}
 use lib.Seq.{drop-drop}
 use borrow.Author.Tests.{lt-ltb, le-ltb, ne-eqb}
-use Rattle.elements.specs.declared.LabelPosition.{LabelPosition}
 use Rattle.elements.specs.Given.{longest}
 use Rattle.elements.specs.Walk.{fresh}
 use Rattle.whole.specs.Step as theory
 use Rattle.whole.specs.Reach.{Final, accepted, refusal}
-use Rattle.whole.specs.Trace.{trace, final}
+use Rattle.whole.specs.Trace.{final}
 use Rattle.whole.specs.Strict.{orElse, reached, objectedBy, Ends}
 use Rattle.whole.proofs.TraceLaws.{trace-by}
 use Rattle.whole.proofs.TurnLaws.{step-long}

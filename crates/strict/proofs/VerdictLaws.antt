@@ -8,15 +8,15 @@ use mathlib.Core.Logic.{_⊎_, inl, inr}
 use Prim.Native.Nat.{ℕ, _≤_, _<_}
 use native.Mathlib.Omega.{arith}
 use lib.Dec.{eqb}
-use lib.ListN.{length, drop}
+use lib.ListN.{length}
 use borrow.Author.Tests.{eq-eqb, ne-eqb}
-use Rattle.elements.specs.Given.{longest, denied}
+use Rattle.elements.specs.Given.{longest}
 use Rattle.elements.specs.Walk.{fresh}
 use Rattle.element_frames.specs.Frame.{frameOf}
 use Rattle.element_frames.proofs.FrameLaws.{frame-local}
 use Rattle.whole.specs.Labels.{Label, Divides}
 use Rattle.whole.specs.Reach.{Final, accepted, refusal, answered}
-use Rattle.whole.specs.Trace.{Trace, Outcome, listed, refusal-of, ending, trace, final, labelsIn}
+use Rattle.whole.specs.Trace.{listed, refusal-of, ending, trace, final, labelsIn}
 use Rattle.whole.specs.Claims.{Local, Walks}
 use Rattle.whole.specs.Strict.{Along, Ends}
 use Rattle.whole.proofs.TraceLaws.{reach-outcome}
@@ -26,16 +26,13 @@ use Rattle.grammar.specs.Epl.{epl, origin}
 use Rattle.grammar.proofs.EplLaws.{inside}
 use Rattle.walk.specs.Steps.{stateOf, traceOf}
 use Rattle.frames.specs.Listing.{FramedLabel}
-use Rattle.profile.specs.declared.rule.Objection.{Objection}
-use Rattle.profile.specs.Profile.{kindOf, objection}
 use Rattle.profile.specs.Asks.{InProfile, Objected}
 use Rattle.profile.specs.Strict.{strict, Own}
 use Rattle.profile.proofs.StrictLaws.{strict-epl-reads, along, strict-divides, divides-strict, fails-objected}
-use Rattle.strict.specs.Verdict.{bare, fieldOf, heldOf, isOwn, verdictOf, strictEnd, checkedOf}
-use Rattle.strict.specs.Listing.{strictOutcomeOf, strictDueOf}
+use Rattle.strict.specs.Verdict.{bare, isOwn, verdictOf, strictEnd, checkedOf}
+use Rattle.strict.specs.Listing.{strictOutcomeOf}
 use Rattle.strict.specs.Look.{endOf}
 use Rattle.strict.proofs.LookLaws.{Plain, plain-ends}
-use Rattle.strict.proofs.ListingLaws.{own-due}
 
 -- ---- 17 and 18
 own-true : {n : ℕ} → Own n → isOwn n ≡ true

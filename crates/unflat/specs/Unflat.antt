@@ -1,5 +1,5 @@
--- The element that a host hands over as a struct with any bytes in any field (01, "Writing EPL"), and whether the struct
--- is one that an element has: any other is none.
+-- The element that a host hands over as a struct with any bytes in any field (01, "Writing EPL"), and whether the
+-- struct is one that an element has: any other is none.
 use mathlib.Core.Path.{_≡_}
 use mathlib.Core.Bool.{Bool, cond, _&&_}
 use Prim.Native.Nat.{ℕ}
@@ -311,7 +311,7 @@ sameElement a b =
 abbrev pub standing : Element → Bool
 standing x = sameElement (flatElement (elementOf x)) x
 
--- the struct x is the one that the element e has; "A field that is none of its kind's is 0"
+-- the struct x is the one that the element e has; a field that is none of its kind's is 0
 abbrev pub Stands : Element → LabelElement → Type 0
 Stands x e = flatElement e ≡ x
 

@@ -2,7 +2,7 @@
 -- alone (`run-fate`), and so does what the unit yields (`changed`). Assumes nothing.
 use mathlib.Core.Path.{_≡_, refl, sym, ap, subst, _∙_}
 use mathlib.Core.List.{List, [], _∷_, _++_, append-assoc, append-nil}
-use Prim.Native.Nat.{ℕ, _+_}
+use Prim.Native.Nat.{ℕ}
 use native.Mathlib.Omega.{arith}
 use lib.ListN.{length, length-append, drop}
 use lib.Seq.{drop-append-seam}
@@ -10,14 +10,10 @@ use Rattle.whole.specs.Language.{unit, Act, keep, clear, yield, print, o
 use Rattle.whole.specs.Division.{Division, done, more, Reads, Firm}
 use Rattle.whole.specs.Labels.{Label, flush, Run, goes, leaves, andThen, effect, run, Divides}
 use Rattle.whole.specs.Normal.{each, Solid}
-use Rattle.whole.specs.Step.{state}
-use Rattle.whole.specs.Trace.{listed, outcome}
-use Rattle.whole.specs.Claims.{Local}
-use Rattle.whole.specs.Change.{Plain, Between, Quiet, quiet-nil, quiet-cons, Fate, dropped, printed, pending, lost, resolved, Told, fateBy, fate, yieldedBy, yielded, Replaced, Changed}
+use Rattle.whole.specs.Change.{Plain, Fate, dropped, printed, pending, lost, resolved, Told, fateBy, fate, yieldedBy, yielded, Replaced, Changed}
 use Rattle.whole.proofs.DivisionLaws.{unique, parted, front-solid}
 use Rattle.whole.proofs.RunLaws.{leaves≢goes, goes-inj, before-goes, before-nil, closed-goes, run-append}
 use Rattle.whole.proofs.SolidLaws.{in-front, behind-solid}
-use Rattle.whole.proofs.OutcomeLaws.{listed→divides}
 
 module _ (L : Language) (F : Type 0) (frame : List ℕ → L .E → F) where
   open Language L using (U, R, E, P, bytes, first, act)
@@ -75,9 +71,6 @@ module _ (L : Language) (F : Type 0) (frame : List ℕ → L .E → F) where
         }
     compared (lost n) e e′ = leaves≢goes e
 
-  three : (a b c : List F) → length (a ++ (b ++ c)) ≡ length a + (length b + length c)
-  three a b c = length-append a (b ++ c) ∙ ap (λ (x : ℕ). length a + x) (length-append b c)
-
   -- the two runs
   pub changed-run : (r : R) (us : List U) (u u′ : U) (vs : List U) (ls ls′ : List (Label F P)) (r₁ r₁′ : R) (p₁ p₁′ : List F) → ((r′ : R) → Plain r′ (act r′ u)) → ((r′ : R) → Plain r′ (act r′ u′))
       → run L F frame r [] (us ++ u ∷ vs) ≡ goes ls r₁ p₁ → run L F frame r [] (us ++ u′ ∷ vs) ≡ goes ls′ r₁′ p₁′ → Changed L F frame r us u u′ vs ls ls′ (length p₁) (length p₁′)
@@ -102,43 +95,10 @@ module _ (L : Language) (F : Type 0) (frame : List ℕ → L .E → F) where
                 subst (λ (y : List (Label F P)). Told ks front mine mine′ y ls′ (length p₁) (length p₁′) (fate L F frame ref [] vs)) (b .2)
                 (subst (λ (y : List (Label F P)). Told ks front mine mine′ (ks ++ b .0) y (length p₁) (length p₁′) (fate L F frame ref [] vs)) (b′ .2)
                 (compared ks front mine mine′ r₁ r₁′ p₁ p₁′ (b .0) (b′ .0) (fate L F frame ref [] vs) c c′));
-            as-many = λ m back. omega (arith, m, three front mine back, three front mine′ back);
-            one-more = λ f m m′ back. omega (arith, ap length m, ap length m′, three front mine back, three front mine′ back);
-            one-less = λ f m m′ back. omega (arith, ap length m, ap length m′, three front mine back, three front mine′ back);
           }
         where
           as-fate : (p : List F) {y : Run R F P} → run L F frame ref p vs ≡ y → resolved p (fate L F frame ref [] vs) ≡ y
           as-fate p q = sym (run-fate vs ref p []) ∙ ap (λ (z : List F). run L F frame ref z vs) (append-nil p) ∙ q
-
-  -- ---- "Where an `N` stands between the line and the next print line or the end, every frame stays": c is the `N`, `between` what stands before it
-  module _ (c : U) (r₀ : R) (clears : (r : R) → act r c ≡ clear r₀) (behind : List U) where
-    abbrev Drops : Fate R F P → Type 0
-    Drops (dropped x) = Unit
-    Drops (printed g q x) = ⊥
-    Drops (pending g r) = ⊥
-    Drops (lost n) = Unit
-
-    drops : {between : List U} → Quiet L between → (r : R) (g : List F) → Drops (fate L F frame r g (between ++ c ∷ behind))
-    drops quiet-nil r g = subst (λ (a : Act R E P). Drops (fateBy L F frame (λ r′ g′. fate L F frame r′ g′ behind) behind r g c a)) (sym (clears r)) tt
-    drops (quiet-cons {u} {us} b q) r g = by (act r u) (b r) (λ r′ g′. drops q r′ g′)
-      where
-        by : (a : Act R E P) → Between a → ((r′ : R) (g′ : List F) → Drops (fate L F frame r′ g′ (us ++ c ∷ behind)))
-            → Drops (fateBy L F frame (λ r′ g′. fate L F frame r′ g′ (us ++ c ∷ behind)) (us ++ c ∷ behind) r g u a)
-        by (keep r′) h again = again r′ g
-        by (clear r′) h again = absurd h
-        by (yield e) h again = again r (g ++ (frame (bytes u) e ∷ []))
-        by (print o) h again = absurd h
-        by (outside n) h again = tt
-
-    stays-by : (earlier : List (Label F P)) (front mine mine′ : List F) (ls ls′ : List (Label F P)) (n n′ : ℕ) (x : Fate R F P) → Drops x → Told earlier front mine mine′ ls ls′ n n′ x → (ls ≡ ls′) × (n ≡ n′)
-    stays-by earlier front mine mine′ ls ls′ n n′ (dropped x) h w = (w .labels-stay, w .count-stays)
-    stays-by earlier front mine mine′ ls ls′ n n′ (printed g q x) h w = absurd h
-    stays-by earlier front mine mine′ ls ls′ n n′ (pending g r) h w = absurd h
-    stays-by earlier front mine mine′ ls ls′ n n′ (lost k) h w = absurd w
-
-    pub stays : (r : R) (us : List U) (u u′ : U) (between : List U) (ls ls′ : List (Label F P)) (n n′ : ℕ) → Quiet L between → Changed L F frame r us u u′ (between ++ c ∷ behind) ls ls′ n n′ → (ls ≡ ls′) × (n ≡ n′)
-    stays r us u u′ between ls ls′ n n′ q w =
-        stays-by (w .earlier) (w .front) (yielded L F frame (w .ref) u) (yielded L F frame (w .ref) u′) ls ls′ n n′ (fate L F frame (w .ref) [] (between ++ c ∷ behind)) (drops q (w .ref) []) (w .told)
 
   -- ---- the two strings
   module _ (reads : Reads L) (firm : Firm L) (s s′ : List ℕ) (us : List U) (u u′ : U) (vs : List U) (w : Replaced L s s′ us u u′ vs) where
@@ -176,8 +136,3 @@ module _ (L : Language) (F : Type 0) (frame : List ℕ → L .E → F) where
         (changed-run r us u u′ vs ls ls′ (g .0) (g′ .0) (g .1) (g′ .1) (w .plain) (w .plain′)
         (ap (run L F frame r []) (unique L reads refl (w .division) (d .division)) ∙ g .2)
         (ap (run L F frame r []) (unique L reads refl (new-divides (d′ .division)) (d′ .division)) ∙ g′ .2)))
-
-    -- of what the two walks list
-    pub changed-lists : Local L F frame → (r : R) (ls ls′ : List (Label F P)) (n n′ : ℕ) → outcome L F frame s (state 0 r 0) ≡ listed ls n → outcome L F frame s′ (state 0 r 0) ≡ listed ls′ n′
-        → Changed L F frame r us u u′ vs ls ls′ n n′
-    changed-lists local r ls ls′ n n′ e e′ = changed r ls ls′ n n′ (listed→divides L reads F frame local s r ls n e) (listed→divides L reads F frame local s′ r ls′ n′ e′)

@@ -1,6 +1,6 @@
 -- What is due to a call that fills a list, as code has it: the labels of a file that is not refused are counted by the
 -- prints of its walk, and its entries can be made one behind the other. Assumes nothing.
-use mathlib.Core.Path.{_≡_, refl, sym, ap, _∙_}
+use mathlib.Core.Path.{_≡_, refl, ap, _∙_}
 use mathlib.Core.List.{List, [], _∷_, _++_}
 use Prim.Native.Nat.{ℕ, suc, _≤_}
 use lib.ListN.{length}

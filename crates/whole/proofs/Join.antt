@@ -2,26 +2,17 @@
 -- (01, "Joining two files"). Assumes nothing.
 use mathlib.Core.Path.{_≡_, refl, sym, ap, subst, _∙_}
 use mathlib.Core.List.{List, [], _∷_, _++_}
-use mathlib.Core.Bool.{Bool, true, false, cond}
-use Prim.Native.Nat.{ℕ, _≤_}
-use native.Mathlib.Omega.{arith}
-use lib.Dec.{ltb}
-use lib.ListN.{length}
-use borrow.Author.Tests.{ltb-false}
+use Prim.Native.Nat.{ℕ}
 use Rattle.whole.specs.Language.{Language, clear}
 use Rattle.whole.specs.Division.{Division, more, Reads}
 use Rattle.whole.specs.Labels.{Label, labels, closed, run, before, labelsOf, Divides}
 use Rattle.whole.specs.Normal.{each, Normalises}
 use Rattle.whole.specs.Claims.{Local}
-use Rattle.whole.specs.Join.{Clearing, joined, Joins, joinDue, joinOf, Joined}
-use Rattle.elements.specs.Given.{text, denied}
-use Rattle.elements.specs.Given.{longest}
-use Rattle.whole.specs.Step.{state}
-use Rattle.whole.specs.Trace.{Outcome, listed, refusal-of, outcome}
+use Rattle.whole.specs.Join.{Clearing, joined, Joins}
 use Rattle.whole.proofs.DivisionLaws.{unique}
 use Rattle.whole.proofs.RunLaws.{closed-goes, run-goes, run-act, before-nil}
 use Rattle.whole.proofs.SolidLaws.{each-append, in-front}
-use Rattle.whole.proofs.OutcomeLaws.{divides→listed, listed→divides}
+use Rattle.whole.proofs.OutcomeLaws.{divides→listed}
 use Rattle.whole.proofs.Again.{by-units, solid-all, normal-divides, run-same, blocks-same}
 
 module _ (L : Language) (reads : Reads L) (F : Type 0) (frame : List ℕ → L .E → F) (local : Local L F frame)
@@ -64,33 +55,4 @@ module _ (L : Language) (reads : Reads L) (F : Type 0) (frame : List ℕ → L .
         divides = w;
         lists = λ short. divides→listed L reads F frame local (joined L normalised n s t) short r (ls ++ ms) k w;
         blocks-of-both = λ us vs ws x y z. ap (each blocks) (unique L reads refl z (both-divides x y)) ∙ both-blocks us vs;
-      }
-
-  -- ---- what is due to a call that joins
-  due-text : (a b : Outcome F P) (j x : List ℕ) → joinDue a b j ≡ text x
-      → (ls : List (Label F P)) × (m : ℕ) × (ms : List (Label F P)) × (k : ℕ) × (a ≡ listed ls m) × (b ≡ listed ms k) × (x ≡ j) × (length j ≤ longest)
-  due-text (refusal-of k p) b j x e = let z : _≡_ {A = ℕ} 0 1 = cc in absurd (omega arith)
-  due-text (listed ls m) (refusal-of k p) j x e = let z : _≡_ {A = ℕ} 0 1 = cc in absurd (omega arith)
-  due-text (listed ls m) (listed ms k) j x e = by (ltb longest (length j)) refl e
-    where
-      by : (c : Bool) → ltb longest (length j) ≡ c → cond c (denied 25 (length j)) (text j) ≡ text x
-          → (ls′ : List (Label F P)) × (m′ : ℕ) × (ms′ : List (Label F P)) × (k′ : ℕ) × (listed ls m ≡ listed ls′ m′) × (listed ms k ≡ listed ms′ k′) × (x ≡ j) × (length j ≤ longest)
-      by true q h = let z : _≡_ {A = ℕ} 0 1 = cc in absurd (omega arith)
-      by false q h = (ls, m, ms, k, refl, refl, cc, ltb-false longest (length j) q)
-
-  pub joined-text : (s t x : List ℕ) → joinOf L F frame normalised n r s t ≡ text x → Joined L F frame normalised n r blocks s t x
-  joined-text s t x e =
-      let j = joined L normalised n s t in
-      let d = due-text (outcome L F frame s (state 0 r 0)) (outcome L F frame t (state 0 r 0)) j x e in
-      let w = joins s t (d .0) (d .2) (d .1) (d .3) (listed→divides L reads F frame local s r (d .0) (d .1) (d .4)) (listed→divides L reads F frame local t r (d .2) (d .3) (d .5)) in
-      record {
-        is = d .6;
-        ls = d .0;
-        ms = d .2;
-        m = d .1;
-        k = d .3;
-        first-lists = d .4;
-        second-lists = d .5;
-        lists = ap (λ (y : List ℕ). outcome L F frame y (state 0 r 0)) (d .6) ∙ w .lists (d .7);
-        joins = w;
       }

@@ -4,11 +4,11 @@ use mathlib.Core.Path.{_≡_, refl, sym, ap, subst, _∙_}
 use mathlib.Core.List.{List, [], _∷_, _++_}
 use Prim.Native.Nat.{ℕ, zero, suc, _+_, _≤_, _<_}
 use native.Mathlib.Omega.{arith}
-use lib.ListN.{length, length-append, length-drop, drop}
+use lib.ListN.{length, length-append, drop}
 use lib.Seq.{drop-append-seam, drop-drop}
 use Rattle.whole.specs.Language.{First, none, bad, unit, Act, keep, clear, yield, print, outside, Language}
 use Rattle.whole.specs.Division.{Reads, onUnits, unitsOf}
-use Rattle.whole.specs.Step.{State, state, Answer, element, cleared, printed, ended, refused, handing, onAct, onFirst, answerBy, answer}
+use Rattle.whole.specs.Step.{State, Answer, element, cleared, printed, ended, refused, handing, onAct, onFirst, answerBy, answer}
 use Rattle.whole.specs.Index.{Entry, Hand, hand, handAt, entryAt, entriesBy, entriesOf}
 use Rattle.whole.specs.Next.{Cursor, nextPrint, nextBy, nextOf, nextFrom, next}
 use Rattle.whole.proofs.DivisionLaws.{units-first}

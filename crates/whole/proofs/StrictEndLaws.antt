@@ -14,7 +14,7 @@ use Rattle.elements.specs.Given.{longest}
 use Rattle.whole.specs.Language as language
 use Rattle.whole.specs.Language.{First, bad, unit, Act, keep, clear, yield, print, outside, Language}
 use Rattle.whole.specs.Division.{Reads}
-use Rattle.whole.specs.Step.{State, state, Answer, element, cleared, printed, ended, refused, handing, printing, onAct, onFirst, answer}
+use Rattle.whole.specs.Step.{State, state, Answer, element, cleared, printed, ended, refused, handing, onAct, onFirst, answer}
 use Rattle.whole.specs.Reach.{Final, accepted, refusal}
 use Rattle.whole.specs.Trace.{trace, onAnswer, final}
 use Rattle.whole.specs.Strict.{unless, strictly, endingAct, endingFirst, endingBy, orElse, reached, objectedBy, Ends}

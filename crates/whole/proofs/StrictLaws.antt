@@ -11,7 +11,7 @@ use lib.ListN.{length, drop}
 use Rattle.elements.specs.Given.{longest}
 use Rattle.whole.specs.Language as language
 use Rattle.whole.specs.Language.{First, bad, unit, Act, keep, clear, yield, print, outside, Language}
-use Rattle.whole.specs.Division.{Division, done, more, Reads}
+use Rattle.whole.specs.Division.{Reads}
 use Rattle.whole.specs.Step.{State, state, Answer, element, cleared, printed, ended, refused, handing, printing, onAct, onFirst, answerBy, answer, step}
 use Rattle.whole.specs.Trace.{Trace, yields, clears, prints, final, left, onAnswer, steps, trace}
 use Rattle.whole.specs.Strict.{unless, strictFirst, strictly, Along}
@@ -49,10 +49,6 @@ module _ (L : Language) (guard : List ℕ → Option ℕ) where
     sound = λ s u rest e. (let w = reads .sound s u rest (unless-unit (guard s) (first s) u rest e .1) in (w .0, sym (ap (strictFirst L guard) (w .0)) ∙ e, w .2));
     empty = λ s e. reads .empty s (unless-none (guard s) (first s) e);
   }
-
-  pub division-plain : Reads L → {s : List ℕ} {us : List U} → Division S s us → Division L s us
-  division-plain reads done = done
-  division-plain reads (more {u} {us} {s} {rest} e st d) = more e (strict-stands reads u rest st .0) (division-plain reads d)
 
   -- ---- the two answer alike, or the strict one refuses by a number of its own
   module _ (Own : ℕ → Type 0) (owns : (s : List ℕ) (n : ℕ) → guard s ≡ some n → Own n) where

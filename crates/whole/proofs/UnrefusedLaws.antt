@@ -11,7 +11,7 @@ use lib.Seq.{drop-append-seam, drop-drop}
 use Rattle.whole.specs.Language.{First, none, bad, unit, Act, keep, clear, yield, print, outside, Language}
 use Rattle.whole.specs.Division.{Division, done, more, Reads, onUnits, unitsOf}
 use Rattle.whole.specs.Labels.{Label, goes, run, Divides}
-use Rattle.whole.specs.Step.{State, Answer, element, cleared, printed, ended, refused, handing, printing, onAct, onFirst, answerBy, answer}
+use Rattle.whole.specs.Step.{State, Answer, element, cleared, printed, ended, refused, handing, onAct, onFirst, answerBy, answer}
 use Rattle.whole.specs.Index.{Hand, hand, handAt}
 use Rattle.whole.specs.Next.{Cursor, nextPrint, nextBy, nextOf, nextFrom, next, rangeBy, RangeOf, Unrefused}
 use Rattle.whole.proofs.DivisionLaws.{bad≢none, units-first, units-division}

@@ -2,7 +2,7 @@
 -- nothing, and what becomes of the label at hand.
 use mathlib.Core.Path.{_≡_}
 use mathlib.Core.List.{List, [], _∷_, _++_}
-use Prim.Native.Nat.{ℕ, suc, _<_}
+use Prim.Native.Nat.{ℕ, _<_}
 use lib.ListN.{length}
 use Rattle.whole.specs.Language.{unit, Act, keep, clear, yield, print, outside, Language}
 use Rattle.whole.specs.Division.{Division}
@@ -29,18 +29,6 @@ pub record Replaced (L : Language) (s s′ : List ℕ) (us : List (L .U)) (u u�
   pub spelled : (w : L .U) (t : List ℕ) → L .first (L .bytes u′ ++ rest) ≡ unit w t → (w ≡ u′) × (t ≡ rest)
   pub plain : (r : L .R) → Plain r (L .act r u)
   pub plain′ : (r : L .R) → Plain r (L .act r u′)
-
--- units that neither clear nor print, wherever they are read
-abbrev pub Between : {R E P : Type 0} → Act R E P → Type 0
-Between (keep r) = Unit
-Between (clear r) = ⊥
-Between (yield e) = Unit
-Between (print q) = ⊥
-Between (outside n) = Unit
-
-pub data Quiet (L : Language) : List (L .U) → Type 0 where
-  quiet-nil : Quiet L []
-  quiet-cons : {u : L .U} {us : List (L .U)} → ((r : L .R) → Between (L .act r u)) → Quiet L us → Quiet L (u ∷ us)
 
 -- what units make of the label at hand: a clear drops it ("an `N` stands between the line and the next print line or
 -- the end"), or a print line prints it with these elements added, and the run goes on from there; or it is pending at
@@ -123,11 +111,3 @@ module _ (L : Language) (F : Type 0) (frame : List ℕ → L .E → F) where
     pub up-to-it : run L F frame r [] us ≡ goes earlier ref front
     -- the label at hand has these elements, what the line yields, and others; all else is the same
     pub told : Told earlier front (yielded ref u) (yielded ref u′) ls ls′ n n′ (fate ref [] vs)
-    -- "if both lines yield an element, or neither does, the count in frame 00 stays too"
-    pub as-many : length (yielded ref u) ≡ length (yielded ref u′) → (back : List F)
-        → length (front ++ (yielded ref u ++ back)) ≡ length (front ++ (yielded ref u′ ++ back))
-    -- "If only one yields, it differs by one"
-    pub one-more : (f : F) → yielded ref u ≡ [] → yielded ref u′ ≡ f ∷ [] → (back : List F)
-        → length (front ++ (yielded ref u′ ++ back)) ≡ suc (length (front ++ (yielded ref u ++ back)))
-    pub one-less : (f : F) → yielded ref u ≡ f ∷ [] → yielded ref u′ ≡ [] → (back : List F)
-        → length (front ++ (yielded ref u ++ back)) ≡ suc (length (front ++ (yielded ref u′ ++ back)))

@@ -49,15 +49,3 @@ module _ (L : Language) (F : Type 0) (frame : List ℕ → L .E → F) (normalis
     -- "all graphic blocks of both stand in it in order"
     pub blocks-of-both : (us vs ws : List U) → Division L s us → Division L t vs
         → Division L (joined L normalised n s t) ws → each blocks ws ≡ each blocks us ++ each blocks vs
-
-  -- where a text j is due: it joins what the two list
-  pub record Joined (blocks : U → List (List ℕ)) (s t j : List ℕ) : Type 0 where
-    pub is : j ≡ joined L normalised n s t
-    pub ls : List (Label F P)
-    pub ms : List (Label F P)
-    pub m : ℕ
-    pub k : ℕ
-    pub first-lists : outcome L F frame s (state 0 r 0) ≡ listed ls m
-    pub second-lists : outcome L F frame t (state 0 r 0) ≡ listed ms k
-    pub lists : outcome L F frame j (state 0 r 0) ≡ listed (ls ++ ms) k
-    pub joins : Joins blocks s t ls ms k

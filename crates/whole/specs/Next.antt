@@ -5,7 +5,7 @@ use Prim.Native.Nat.{ℕ, zero, suc, _+_}
 use lib.ListN.{length, drop}
 use Rattle.whole.specs.Language.{Act, keep, clear, yield, print, outside, Language}
 use Rattle.whole.specs.Division.{Division, unitsOf}
-use Rattle.whole.specs.Index.{Entry, Hand, hand, handAt, entriesOf}
+use Rattle.whole.specs.Index.{Entry, Hand, hand, handAt}
 
 -- the entry made last, and the reference behind its print line
 pub record Cursor (R : Type 0) : Type 0 where

@@ -5,11 +5,11 @@ use mathlib.Core.List.{List, [], _∷_, _++_}
 use Prim.Native.Nat.{ℕ, _+_, _-_, _*_, _/_, _<_, _≤_}
 use native.Mathlib.Numerals.{add-one}
 use native.Mathlib.Omega.{arith}
-use lib.Dec.{eqb, ltb}
+use lib.Dec.{eqb}
 use lib.ListN.{length, set, getD, drop, drop-of-length-le, length-append}
 use lib.Seq.{drop-cons}
 use borrow.Author.Tests.{lt-ltb, le-ltb, ne-eqb, ltb-false}
-use Rattle.text.specs.Wrote.{Wrote, Put}
+use Rattle.text.specs.Wrote.{Put}
 use Rattle.text.proofs.WroteLaws.{wrote}
 use Rattle.text.proofs.BoolLaws.{test}
 use Rattle.text.proofs.WroteTowardLaws.{Toward, begin, room, put, finish}

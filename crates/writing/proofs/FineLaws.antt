@@ -1,18 +1,17 @@
 -- What the tests on a flat element say is what `writable` says. Assumes nothing.
 use mathlib.Core.Path.{_≡_, refl, sym, ap, _∙_}
-use mathlib.Core.Bool.{Bool, true, false, cond, not, _&&_, _||_, true≢false}
-use mathlib.Core.List.{List, []}
-use Prim.Native.Nat.{ℕ, zero, suc, _+_, _%_, _<_, _≤_, min}
+use mathlib.Core.Bool.{Bool, true, false, cond, _&&_, _||_}
+use mathlib.Core.List.{List}
+use Prim.Native.Nat.{ℕ, zero, suc, _≤_, min}
 use native.Mathlib.Omega.{arith}
 use lib.Dec.{eqb, leb, ltb}
 use lib.IntN.{ℤ, pos, negsuc, natAbs, _*ℤ_, _+ℤ_}
 use lib.ListN.{length}
 use lib.Signed.{leZ, ltZ}
-use borrow.Author.Tests.{eqb-true, eqb-false, eq-eqb, ne-eqb, ltb-true, ltb-false, lt-ltb, le-ltb, leb-true, leb-false, le-leb, lt-leb}
+use borrow.Author.Tests.{eqb-true, eqb-false, ne-eqb, ltb-true, ltb-false, lt-ltb, le-ltb, leb-true, leb-false, le-leb, lt-leb}
 use Rattle.text.specs.Utf8.{decode}
 use Rattle.text.proofs.BoolLaws.{test}
 use Rattle.numbers.specs.Int.{in32, eqZ, minZ}
-use Rattle.elements.specs.declared.FieldOrientation.{FieldOrientation}
 use Rattle.elements.specs.declared.FontInfo.{FontInfo}
 use Rattle.elements.specs.declared.FontScale.{FontScale}
 use Rattle.elements.specs.declared.LabelElement.{LabelElement}
@@ -28,9 +27,9 @@ use Rattle.barcodes_2d.specs.Barcode2d as two
 use Rattle.spellings.specs.Draws.{isBlack, isLine, isCornered, fineBox, slopes, fineDiagonal}
 use Rattle.spellings.specs.Codes.{turns}
 use Rattle.spellings.specs.Codes2d.{fineAztec, fineDatamatrix, finePdf417, fineQr}
-use Rattle.spellings.specs.Fonts.{sameBits, sameFont, fineFont, fineRatio}
+use Rattle.spellings.specs.Fonts.{sameFont, fineFont, fineRatio}
 use Rattle.spellings.specs.Spelled.{bytesIn}
-use Rattle.spellings.specs.Writable.{wholeRows, fineFields, fineData, writable}
+use Rattle.spellings.specs.Writable.{wholeRows, fineFields, writable}
 use Rattle.spellings.proofs.BoundLaws.{not-lt-le}
 use Rattle.spellings.proofs.DrawLaws.{eqZ-refl}
 use Rattle.writing.specs.Fine.{between, sized, rowsAt, same, fineNumbers, fineBytes}

@@ -1,7 +1,7 @@
 -- A template filled from an element that is writable is its command. Assumes nothing.
-use mathlib.Core.Path.{_≡_, refl, sym, ap, _∙_}
-use mathlib.Core.Bool.{Bool, true, false, cond, _&&_, _||_, true≢false}
-use mathlib.Core.List.{List, [], _∷_, _++_, append-assoc, append-nil}
+use mathlib.Core.Path.{_≡_, refl, sym, _∙_}
+use mathlib.Core.Bool.{Bool, true, false, _&&_, _||_, true≢false}
+use mathlib.Core.List.{List, [], _∷_, _++_, append-assoc}
 use Prim.Native.Nat.{ℕ, _+_, _<_, _≤_}
 use native.Mathlib.Omega.{arith}
 use lib.IntN.{ℤ, pos, negsuc, natAbs, _+ℤ_}
@@ -26,7 +26,7 @@ use Rattle.spellings.specs.Spelled.{spell}
 use Rattle.spellings.specs.Writable.{writable}
 use Rattle.barcodes.specs.declared.barcode.Symbology.the-variants.{Code128, Interleaved, Code39}
 use lib.Dec.{leb}
-use lib.ListN.{take, drop, length-take, length-drop}
+use lib.ListN.{length-take, length-drop}
 use lib.Signed.{ltZ}
 use borrow.Author.Tests.{leb-true, le-ltb, ne-eqb}
 use native.Mathlib.Nat.{div-le-self}
@@ -64,7 +64,7 @@ use Rattle.elements.specs.Plain.{plainOf}
 use Rattle.spellings.specs.Spelled.{bytesIn}
 use Rattle.spellings.proofs.DrawLaws.{eqZ-true}
 use Rattle.spellings.proofs.OptionLaws.{from-one}
-use Rattle.spellings.proofs.Code2dLaws.{limited, size-whole, mode-whole, Limits, limits}
+use Rattle.spellings.proofs.Code2dLaws.{limited, size-whole, mode-whole, limits}
 use Rattle.writing.specs.Fill.{lines, colourLetter}
 use Rattle.writing.specs.Fill.{either, turnLetter, modeFirst, modeSecond, letterOf, fill}
 use Rattle.writing.specs.Template.{template, whichOf}

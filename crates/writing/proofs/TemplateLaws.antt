@@ -1,5 +1,5 @@
 -- The template of a number that is none of 1 to 18 is that of 19. Assumes nothing.
-use mathlib.Core.Path.{_≡_, refl}
+use mathlib.Core.Path.{_≡_}
 use Prim.Native.Nat.{ℕ}
 use borrow.Author.Tests.{ne-eqb}
 use Rattle.writing.specs.Template.{template}

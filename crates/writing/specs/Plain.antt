@@ -1,6 +1,6 @@
--- What a call that writes a host's struct is due (01, "Writing EPL"): "23 (place: its number in the label, 0 if alone) an
--- element that no single line or block of any length, read at reference 0,0, yields". A struct that no element has is
--- none, so no line yields it; of any other this is `elementDue` of its element (`PlainLaws`).
+-- What a call that writes a host's struct is due (01, "Writing EPL"): "23 (place: its number in the label, 0 if alone)
+-- an element that no single line or block of any length, read at reference 0,0, yields". A struct that no element has
+-- is none, so no line yields it; of any other this is `elementDue` of its element (`PlainLaws`).
 use mathlib.Core.Bool.{cond, _&&_}
 use mathlib.Core.List.{List}
 use Prim.Native.Nat.{ℕ}

@@ -1,5 +1,4 @@
 // One element as its command, from a struct with any bytes in any field.
-ghost use mathlib.Core.Path.{_≡_};
 ghost use Rattle.elements.specs.Given.{Fills, givenOf};
 ghost use Rattle.writing.specs.Plain.{plainDue};
 use crate::write::write;

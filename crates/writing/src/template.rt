@@ -1,5 +1,4 @@
 // The template of each command. A number stands as 80 (hexadecimal) and more, a letter as 94 and more, the data as a0.
-ghost use mathlib.Core.Path.{_≡_};
 ghost use Prim.Native.Nat.{_+_, _≤_};
 ghost use lib.ListN.{length};
 ghost use Rattle.text.specs.Wrote.{Put};

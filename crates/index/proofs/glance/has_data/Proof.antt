@@ -1,10 +1,10 @@
 -- `index::glance::has_data` meets its contract. The first quote's place gives the data. Assumes nothing.
-use mathlib.Core.Path.{_≡_, sym, ap, _∙_}
+use mathlib.Core.Path.{_≡_, ap, _∙_}
 use mathlib.Core.Bool.{not}
 use native.Mathlib.Omega.{arith}
 use lib.Dec.{eqb}
 use lib.ListN.{length}
-use borrow.Author.Tests.{eq-eqb, ne-eqb}
+use borrow.Author.Tests.{eq-eqb}
 use Rattle.text.specs.Fields.{beforeLast, quoted}
 use Rattle.text.proofs.FieldsLaws.{after-here}
 use Rattle.commands.proofs.LineLaws.{quoted-none}

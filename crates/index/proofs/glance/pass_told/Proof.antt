@@ -1,7 +1,7 @@
 -- `index::glance::pass_told` meets its contract. Invariant: what stands between the start and here is told so. Measure:
 -- the bytes left. Assumes nothing.
 use mathlib.Core.List.{List}
-use Prim.Native.Nat.{ℕ, _+_, _-_}
+use Prim.Native.Nat.{ℕ, _-_}
 use native.Mathlib.Omega.{arith}
 use lib.ListN.{length}
 use Rattle.index.specs.Glance.{Past}

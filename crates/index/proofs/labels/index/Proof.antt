@@ -24,7 +24,7 @@ use Rattle.index.specs.declared.entry.LabelEntry.{LabelEntry}
 use Rattle.index.specs.declared.entry.Cursor.{Cursor}
 use Rattle.lists.specs.Filled.{made}
 use Rattle.index.specs.Entries.{begins, nextOf, WithinCursor}
-use Rattle.index.specs.Plan.{countedOf, fillingOf, todoOf, Plans}
+use Rattle.index.specs.Plan.{countedOf, fillingOf, Plans}
 use Rattle.index.proofs.PlanLaws.{plan-room, plan-start, filled-list}
 use Rattle.index.proofs.Elems.{entry, cursor, indexed, todo}
 use Rattle.lists.proofs.Elem.{row-of, elem, bytes, lent-mut, number, none, made-of, struct}

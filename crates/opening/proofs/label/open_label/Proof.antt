@@ -1,6 +1,6 @@
 -- `opening::label::open_label` meets its contract: a walk of its MIR, by hand. The entry is taken out of the list, and
 -- the buffer is passed on for good to `open_entry`, which does the work. Assumes nothing.
-use mathlib.Core.Path.{_≡_, refl, sym, _∙_, ap, subst}
+use mathlib.Core.Path.{_≡_, refl, _∙_, ap, subst}
 use Prim.Native.Nat.{ℕ}
 use mathlib.Core.List.{List, [], _∷_}
 use lib.ListN.{length, getD}

@@ -1,6 +1,5 @@
 -- `unflat::element::level_of` meets its contract. Assumes nothing.
 use borrow.Author.Tests.{ne-eqb}
-use borrow.Author.Needs.{needs}
 use Rattle.unflat.proofs.element.level_of.Statement.{statement}
 use Rattle.unflat.proofs.element.level_of.Tie as tie
 

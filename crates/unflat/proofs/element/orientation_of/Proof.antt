@@ -1,6 +1,5 @@
 -- `unflat::element::orientation_of` meets its contract. Assumes nothing.
 use borrow.Author.Tests.{ne-eqb}
-use borrow.Author.Needs.{needs}
 use Rattle.unflat.proofs.element.orientation_of.Statement.{statement}
 use Rattle.unflat.proofs.element.orientation_of.Tie as tie
 

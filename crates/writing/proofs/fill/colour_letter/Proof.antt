@@ -1,7 +1,5 @@
 -- `writing::fill::colour_letter` meets its contract. Assumes nothing.
 use borrow.Author.Tests.{ne-eqb}
-use mathlib.Core.Path.{refl}
-use borrow.Author.Needs.{needs}
 use Rattle.writing.proofs.fill.colour_letter.Statement.{statement}
 use Rattle.writing.proofs.fill.colour_letter.Tie as tie
 

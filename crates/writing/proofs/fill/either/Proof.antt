@@ -1,6 +1,5 @@
 -- `writing::fill::either` meets its contract. Assumes nothing.
 use borrow.Author.Tests.{eq-eqb, ne-eqb}
-use borrow.Author.Needs.{needs}
 use Rattle.writing.proofs.fill.either.Statement.{statement}
 use Rattle.writing.proofs.fill.either.Tie as tie
 

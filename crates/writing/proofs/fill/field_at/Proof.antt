@@ -1,7 +1,6 @@
 -- `writing::fill::field_at` meets its contract. Assumes nothing.
 use borrow.Author.Tests.{ne-eqb}
 use Rattle.numbers.proofs.IntLaws.{back32}
-use borrow.Author.Needs.{needs}
 use Rattle.writing.proofs.fill.field_at.Statement.{statement}
 use Rattle.writing.proofs.fill.field_at.Tie as tie
 

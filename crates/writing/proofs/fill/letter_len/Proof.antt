@@ -1,6 +1,5 @@
 -- `writing::fill::letter_len` meets its contract. Assumes nothing.
 use borrow.Author.Tests.{eq-eqb, ne-eqb}
-use borrow.Author.Needs.{needs}
 use Rattle.writing.proofs.fill.letter_len.Statement.{statement}
 use Rattle.writing.proofs.fill.letter_len.Tie as tie
 

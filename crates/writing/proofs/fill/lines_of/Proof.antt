@@ -1,9 +1,8 @@
 -- `writing::fill::lines_of` meets its contract. Assumes nothing.
-use mathlib.Core.Path.{sym, ap, _∙_}
-use Prim.Native.Nat.{ℕ, _/_, _<_, _≤_}
+use mathlib.Core.Path.{_∙_}
+use Prim.Native.Nat.{_/_, _<_, _≤_}
 use native.Mathlib.Omega.{arith}
-use lib.IntN.{natAbs, pos}
-use lib.Signed.{ltZ}
+use lib.IntN.{natAbs}
 use mir.Facts.{toZ-ofZ, toZ-pos}
 use mir.Syntax.{w32}
 use Rattle.writing.proofs.FillLaws.{row-bits, lines-none, lines-many, lines-some}

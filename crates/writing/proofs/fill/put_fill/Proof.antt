@@ -1,7 +1,6 @@
 -- `writing::fill::put_fill` meets its contract. Invariant: `Filling`. Measure: what is left of t.
 -- Assumes nothing.
 use Prim.Native.Nat.{_-_}
-use native.Mathlib.Omega.{arith}
 use lib.ListN.{length}
 use Rattle.writing.proofs.FillLaws.{Filling, filling-begin, filling-room, filling-next, filling-end}
 use borrow.Author.Needs.{needs}

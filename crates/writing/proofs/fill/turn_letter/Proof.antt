@@ -1,6 +1,5 @@
 -- `writing::fill::turn_letter` meets its contract. Assumes nothing.
 use borrow.Author.Tests.{ne-eqb}
-use borrow.Author.Needs.{needs}
 use Rattle.writing.proofs.fill.turn_letter.Statement.{statement}
 use Rattle.writing.proofs.fill.turn_letter.Tie as tie
 

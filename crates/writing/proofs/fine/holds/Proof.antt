@@ -4,7 +4,6 @@ use Prim.Native.Nat.{_+_}
 use native.Mathlib.Omega.{arith}
 use borrow.Author.Tests.{lt-leb}
 use Rattle.writing.proofs.WriteLaws.{holds-is}
-use borrow.Author.Needs.{needs}
 use Rattle.writing.proofs.fine.holds.Statement.{statement}
 use Rattle.writing.proofs.fine.holds.Tie as tie
 

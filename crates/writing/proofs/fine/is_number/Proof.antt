@@ -1,5 +1,4 @@
 -- `writing::fine::is_number` meets its contract. Assumes nothing.
-use mathlib.Core.Path.{_∙_}
 use mir.Facts.{toZ-ofZ}
 use Rattle.numbers.proofs.IntLaws.{back32}
 use borrow.Author.Needs.{needs}

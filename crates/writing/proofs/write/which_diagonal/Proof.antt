@@ -1,6 +1,5 @@
 -- `writing::write::which_diagonal` meets its contract. Assumes nothing.
 use borrow.Author.Tests.{eq-eqb, ne-eqb}
-use borrow.Author.Needs.{needs}
 use Rattle.writing.proofs.write.which_diagonal.Statement.{statement}
 use Rattle.writing.proofs.write.which_diagonal.Tie as tie
 
