@@ -13,7 +13,7 @@ use Rattle.spelling.specs.declared.command.Command.the-variants.{Clear, Referen
 use Rattle.spelling.specs.Command.{isReference, isPrint, commandOf}
 use Rattle.spelling.specs.Print.{isCounts}
 use Rattle.graphics.specs.Block.{opensGw, gwSpan}
-use Rattle.whole.specs.Normal.{none-left, and-then}
+use Rattle.walk_theory.specs.Normal.{none-left, and-then}
 use Rattle.grammar.specs.Units.{line, notLf}
 use Rattle.grammar.specs.Found.{first}
 use Rattle.grammar.specs.WellFormed.{wellFormed}

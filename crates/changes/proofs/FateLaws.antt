@@ -5,11 +5,11 @@ use mathlib.Core.List.{List, [], _∷_, _++_}
 use Prim.Native.Nat.{ℕ}
 use Rattle.elements.specs.declared.LabelElement.{LabelElement}
 use Rattle.elements.specs.declared.LabelPosition.{LabelPosition}
-use Rattle.whole.specs.Language.{keep, clear, yield, print, outside}
-use Rattle.whole.specs.Division.{Division, done, more}
-use Rattle.whole.specs.Labels.{Run, goes, before, andThen, run}
-use Rattle.whole.specs.Change as change
-use Rattle.whole.specs.Change.{Fate, dropped, printed, fateBy, fate}
+use Rattle.walk_theory.specs.Language.{keep, clear, yield, print, outside}
+use Rattle.walk_theory.specs.Division.{Division, done, more}
+use Rattle.walk_theory.specs.Labels.{Run, goes, before, andThen, run}
+use Rattle.walk_theory.specs.Change as change
+use Rattle.walk_theory.specs.Change.{Fate, dropped, printed, fateBy, fate}
 use Rattle.grammar.specs.Units.{EplUnit}
 use Rattle.grammar.specs.Epl.{EplPrint, EplAct, acts, epl}
 use Rattle.grammar.specs.Ranges.{refAfter, InRange, Role, passes, clears, yields, prints, roleOf, Does}

@@ -15,9 +15,9 @@ use Rattle.elements.specs.Refusals.{numberOf}
 use Rattle.spelling.specs.declared.command.Command.{Command}
 use Rattle.spelling.specs.declared.command.Command.the-variants.{Clear, Reference, Data, Line, Diagonal, Box, Print, Other}
 use Rattle.spelling.specs.Command.{commandOf}
-use Rattle.whole.specs.Language.{unit, keep, clear, yield, print, outside}
-use Rattle.whole.specs.Change.{Plain}
-use Rattle.whole.proofs.DivisionLaws.{same-unit}
+use Rattle.walk_theory.specs.Language.{unit, keep, clear, yield, print, outside}
+use Rattle.walk_theory.specs.Change.{Plain}
+use Rattle.walk_theory.proofs.DivisionLaws.{same-unit}
 use Rattle.grammar.specs.Units.{EplUnit, block, line, last, bytes, All, notLf, Opens}
 use Rattle.grammar.specs.WellFormed.{isRead, wellFormed}
 use Rattle.grammar.specs.Found.{textLine, found, first}

@@ -8,15 +8,15 @@ use lib.ListN.{length, length-append}
 use Rattle.elements.specs.declared.LabelElement.{LabelElement}
 use Rattle.elements.specs.declared.LabelPosition.{LabelPosition}
 use Rattle.spelling.specs.declared.command.Command.the-variants.{Clear, Print}
-use Rattle.whole.specs.Division.{Division, done, more}
-use Rattle.whole.specs.Labels.{Label, Divides}
-use Rattle.whole.specs.Normal.{each}
-use Rattle.whole.specs.Change as change
-use Rattle.whole.specs.Change.{Changed, Told, fate, yielded}
-use Rattle.whole.proofs.DivisionLaws.{unique}
-use Rattle.whole.proofs.SolidLaws.{in-front, behind-solid}
-use Rattle.whole.proofs.RunLaws.{goes-inj}
-use Rattle.whole.proofs.Change as theory
+use Rattle.walk_theory.specs.Division.{Division, done, more}
+use Rattle.walk_theory.specs.Labels.{Label, Divides}
+use Rattle.walk_theory.specs.Normal.{each}
+use Rattle.walk_theory.specs.Change as change
+use Rattle.walk_theory.specs.Change.{Changed, Told, fate, yielded}
+use Rattle.walk_theory.proofs.DivisionLaws.{unique}
+use Rattle.walk_theory.proofs.SolidLaws.{in-front, behind-solid}
+use Rattle.walk_theory.proofs.RunLaws.{goes-inj}
+use Rattle.walk_theory.proofs.Change as theory
 use Rattle.grammar.specs.Units.{EplUnit, bytes}
 use Rattle.grammar.specs.Found.{first}
 use Rattle.grammar.specs.Epl.{origin, EplPrint, EplAct, acts, epl}

@@ -10,8 +10,8 @@ use Rattle.elements.specs.declared.LabelElement.{LabelElement}
 use Rattle.elements.specs.declared.LabelPosition.{LabelPosition}
 use Rattle.spelling.specs.declared.command.Command.{Command}
 use Rattle.spelling.specs.declared.command.Command.the-variants.{Clear, Reference, Print}
-use Rattle.whole.specs.Labels.{Label, flush}
-use Rattle.whole.specs.Normal.{each, Solid}
+use Rattle.walk_theory.specs.Labels.{Label, flush}
+use Rattle.walk_theory.specs.Normal.{each, Solid}
 use Rattle.grammar.specs.Spelled.{Spells}
 use Rattle.grammar.specs.Units.{EplUnit, block, line, last, bytes, All, notLf, Opens}
 use Rattle.grammar.specs.Epl.{origin, EplPrint, acts, epl}

@@ -13,13 +13,13 @@ use Rattle.text.proofs.BoolLaws.{test}
 use Rattle.elements.specs.declared.LabelElement.{LabelElement}
 use Rattle.elements.specs.declared.LabelPosition.{LabelPosition}
 use Rattle.elements.specs.Given.{longest}
-use Rattle.whole.specs.Language as language
-use Rattle.whole.specs.Language.{First, bad, unit, Act, keep, clear, yield, print, outside}
-use Rattle.whole.specs.Index as index
-use Rattle.whole.specs.Index.{firstIn, openingBy, openingFound}
-use Rattle.whole.specs.Step.{State, state, Answer, element, cleared, printed, ended, refused, handing, onAct, onFirst, answerBy, answer, step}
-use Rattle.whole.specs.Trace.{Trace, stops, refuses, yields, clears, prints, left, onAnswer, steps, trace}
-use Rattle.whole.proofs.TraceLaws.{goes-by}
+use Rattle.walk_theory.specs.Language as language
+use Rattle.walk_theory.specs.Language.{First, bad, unit, Act, keep, clear, yield, print, outside}
+use Rattle.walk_theory.specs.Index as index
+use Rattle.walk_theory.specs.Index.{firstIn, openingBy, openingFound}
+use Rattle.walk_theory.specs.Step.{State, state, Answer, element, cleared, printed, ended, refused, handing, onAct, onFirst, answerBy, answer, step}
+use Rattle.walk_theory.specs.Trace.{Trace, stops, refuses, yields, clears, prints, left, onAnswer, steps, trace}
+use Rattle.walk_theory.proofs.TraceLaws.{goes-by}
 use Rattle.grammar.specs.Units.{EplUnit, bytes}
 use Rattle.grammar.specs.Epl.{EplPrint, epl}
 use Rattle.grammar.proofs.FoundLaws.{reads}

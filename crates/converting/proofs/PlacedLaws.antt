@@ -8,12 +8,12 @@ use Prim.Native.Nat.{ℕ, zero, suc, _+_}
 use lib.Dec.{ltb}
 use lib.ListN.{length, drop}
 use Rattle.elements.specs.Given.{longest}
-use Rattle.whole.specs.Language as language
-use Rattle.whole.specs.Language.{First, bad, unit, Act, keep, clear, yield, print, outside, Language}
-use Rattle.whole.specs.Division.{Reads}
-use Rattle.whole.specs.Step.{State, Answer, element, cleared, printed, ended, refused, handing, onAct, onFirst, answerBy, answer, step}
-use Rattle.whole.specs.Trace.{Trace, stops, refuses, yields, clears, prints, left, steps, trace, onAnswer, lead, after}
-use Rattle.whole.specs.Index.{Opening, opens, denies, firstIn}
+use Rattle.walk_theory.specs.Language as language
+use Rattle.walk_theory.specs.Language.{First, bad, unit, Act, keep, clear, yield, print, outside, Language}
+use Rattle.walk_theory.specs.Division.{Reads}
+use Rattle.walk_theory.specs.Step.{State, Answer, element, cleared, printed, ended, refused, handing, onAct, onFirst, answerBy, answer, step}
+use Rattle.walk_theory.specs.Trace.{Trace, stops, refuses, yields, clears, prints, left, steps, trace, onAnswer, lead, after}
+use Rattle.walk_theory.specs.Index.{Opening, opens, denies, firstIn}
 use Rattle.converting.specs.Placed.{Placed, placedAct, placed}
 
 -- an answer with a place beside its element, and the place in an answer: 0 where there is none

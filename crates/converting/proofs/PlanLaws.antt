@@ -15,7 +15,7 @@ use Rattle.elements.specs.declared.LabelElement.{LabelElement}
 use Rattle.elements.specs.declared.walk_state.WalkState.{WalkState}
 use Rattle.elements.specs.Given.{longest}
 use Rattle.lists.specs.Filled.{made}
-use Rattle.whole.specs.Index.{denies, openingBy, openingFound}
+use Rattle.walk_theory.specs.Index.{denies, openingBy, openingFound}
 use Rattle.grammar.specs.Epl.{EplPrint, epl}
 use Rattle.index.specs.Entries.{entryOf, entriesOf, noEntry}
 use Rattle.index.specs.declared.entry.LabelEntry.{LabelEntry}

@@ -18,11 +18,11 @@ use Rattle.elements.specs.declared.LabelElement.{LabelElement}
 use Rattle.elements.specs.declared.LabelPosition.{LabelPosition}
 use Rattle.elements.specs.Given.{longest}
 use Rattle.elements.specs.declared.LabelElement.the-variants as element
-use Rattle.whole.specs.Labels.{Label}
-use Rattle.whole.specs.Index as index
-use Rattle.whole.specs.Index.{firstIn, openingBy, openingFound, opening}
-use Rattle.whole.specs.Step.{State, state}
-use Rattle.whole.specs.Trace.{trace}
+use Rattle.walk_theory.specs.Labels.{Label}
+use Rattle.walk_theory.specs.Index as index
+use Rattle.walk_theory.specs.Index.{firstIn, openingBy, openingFound, opening}
+use Rattle.walk_theory.specs.Step.{State, state}
+use Rattle.walk_theory.specs.Trace.{trace}
 use Rattle.grammar.specs.Epl.{EplPrint, epl}
 use Rattle.index.specs.Entries.{EplEntry, entryOf, entriesOf, noEntry}
 use Rattle.index.specs.declared.entry.LabelEntry.{LabelEntry}

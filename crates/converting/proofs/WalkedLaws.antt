@@ -12,12 +12,12 @@ use Rattle.elements.specs.declared.LabelElement.{LabelElement}
 use Rattle.elements.specs.declared.LabelPosition.{LabelPosition}
 use Rattle.elements.specs.declared.walk_state.WalkState.{WalkState}
 use Rattle.lists.specs.Filled.{made}
-use Rattle.whole.specs.Language as language
-use Rattle.whole.specs.Language.{First, bad, unit, Act, keep, clear, yield, print, outside}
-use Rattle.whole.specs.Index.{firstIn}
-use Rattle.whole.specs.Step.{State, state, Answer, element, cleared, printed, ended, refused, handing, onAct, onFirst, answerBy, answer, step}
-use Rattle.whole.specs.Trace.{Trace, onAnswer, trace, lead, after}
-use Rattle.whole.proofs.TraceLaws.{trace-by, goes-by}
+use Rattle.walk_theory.specs.Language as language
+use Rattle.walk_theory.specs.Language.{First, bad, unit, Act, keep, clear, yield, print, outside}
+use Rattle.walk_theory.specs.Index.{firstIn}
+use Rattle.walk_theory.specs.Step.{State, state, Answer, element, cleared, printed, ended, refused, handing, onAct, onFirst, answerBy, answer, step}
+use Rattle.walk_theory.specs.Trace.{Trace, onAnswer, trace, lead, after}
+use Rattle.walk_theory.proofs.TraceLaws.{trace-by, goes-by}
 use Rattle.grammar.specs.Units.{EplUnit, bytes}
 use Rattle.grammar.specs.Epl.{EplPrint, epl}
 use Rattle.grammar.specs.Size.{unitSize}

@@ -8,8 +8,8 @@ use lib.IntN.{pos}
 use lib.ListN.{length}
 use lib.Seq.{sets}
 use Rattle.elements.specs.declared.LabelElement.{LabelElement}
-use Rattle.whole.specs.Index as index
-use Rattle.whole.specs.Index.{Opening, opens, opening}
+use Rattle.walk_theory.specs.Index as index
+use Rattle.walk_theory.specs.Index.{Opening, opens, opening}
 use Rattle.grammar.specs.Epl.{EplPrint, epl}
 use Rattle.index.specs.Entries.{entriesOf}
 use Rattle.index.specs.declared.entry.LabelEntry.{LabelEntry}

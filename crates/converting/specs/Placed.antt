@@ -1,7 +1,7 @@
 -- A language of units whose elements carry the place of their unit's first byte, blanks included: 0 in the unit itself,
 -- and moved as the element is.
 use Prim.Native.Nat.{ℕ, _+_}
-use Rattle.whole.specs.Language.{Act, keep, clear, yield, print, outside, Language}
+use Rattle.walk_theory.specs.Language.{Act, keep, clear, yield, print, outside, Language}
 
 pub record Placed (E : Type 0) : Type 0 where
   pub place : ℕ

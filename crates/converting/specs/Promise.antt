@@ -10,7 +10,7 @@ use Rattle.numbers.specs.Int.{in32}
 use Rattle.elements.specs.declared.LabelElement.{LabelElement}
 use Rattle.elements.specs.declared.LabelElement.the-variants as element
 use Rattle.elements.specs.declared.LabelPosition.{LabelPosition}
-use Rattle.whole.specs.Language.{unit, yield}
+use Rattle.walk_theory.specs.Language.{unit, yield}
 use Rattle.grammar.specs.Units.{EplUnit}
 use Rattle.grammar.specs.Epl.{EplPrint, epl}
 use Rattle.grammar.specs.Shapes.{placeOf}

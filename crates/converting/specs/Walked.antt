@@ -11,9 +11,9 @@ use Rattle.elements.specs.declared.walk_state.WalkState.{WalkState}
 use Rattle.elements.specs.Given.{longest}
 use Rattle.elements.specs.Refusals.{numberOf}
 use Rattle.lists.specs.Filled.{made}
-use Rattle.whole.specs.Index.{denies, firstIn, openingBy}
-use Rattle.whole.specs.Step.{element, cleared, printed, ended, refused, step}
-use Rattle.whole.specs.Trace.{Trace, trace, lead}
+use Rattle.walk_theory.specs.Index.{denies, firstIn, openingBy}
+use Rattle.walk_theory.specs.Step.{element, cleared, printed, ended, refused, step}
+use Rattle.walk_theory.specs.Trace.{Trace, trace, lead}
 use Rattle.grammar.specs.Epl.{EplPrint, epl}
 use Rattle.grammar.specs.Size.{unitSize}
 use Rattle.walk.specs.Steps.{EplAnswer, stateOf}

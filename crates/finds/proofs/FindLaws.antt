@@ -10,8 +10,8 @@ use types.Run.{OneOf, miss}
 use denote.Enum.Declared.{tagOf, declared}
 use Rattle.elements.specs.declared.LabelElement.{LabelElement}
 use Rattle.elements.specs.declared.walk_state.WalkState.{WalkState}
-use Rattle.whole.specs.Step.{step}
-use Rattle.whole.specs.Trace.{after}
+use Rattle.walk_theory.specs.Step.{step}
+use Rattle.walk_theory.specs.Trace.{after}
 use Rattle.grammar.specs.Epl.{epl}
 use Rattle.walk.specs.Steps.{stateOf, answerOf, traceOf}
 use Rattle.walk.specs.declared.answer.Answer.{Answer}

@@ -8,7 +8,7 @@ use Rattle.elements.specs.Given.{Due, text, denied}
 use Rattle.elements.specs.Refusals.{numberOf}
 use Rattle.elements.specs.declared.LabelElement.{LabelElement}
 use Rattle.elements.specs.declared.walk_state.WalkState.{WalkState}
-use Rattle.whole.specs.Trace.{lead}
+use Rattle.walk_theory.specs.Trace.{lead}
 use Rattle.grammar.specs.Epl.{epl}
 use Rattle.walk.specs.Steps.{EplTrace, traceOf}
 use Rattle.index.specs.declared.entry.LabelEntry.{LabelEntry}

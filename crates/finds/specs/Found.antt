@@ -8,7 +8,7 @@ use Rattle.elements.specs.Given as given
 use Rattle.elements.specs.Refusals.{numberOf}
 use Rattle.elements.specs.declared.LabelElement.{LabelElement}
 use Rattle.elements.specs.declared.LabelPosition.{LabelPosition}
-use Rattle.whole.specs.Index.{Opening, opens, denies, opening}
+use Rattle.walk_theory.specs.Index.{Opening, opens, denies, opening}
 use Rattle.grammar.specs.Epl.{EplPrint, epl}
 use Rattle.index.specs.Entries.{entriesOf}
 use Rattle.index.specs.declared.entry.LabelEntry.{LabelEntry}

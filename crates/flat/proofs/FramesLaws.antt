@@ -7,7 +7,7 @@ use Rattle.elements.specs.declared.LabelElement.{LabelElement}
 use Rattle.elements.specs.declared.LabelElement.the-variants as kind
 use Rattle.element_frames.specs.Frame.{be32, head, extentBytes, barBytes, rowBytes, scaleBytes, fieldBytes, frameOf}
 use Rattle.elements.specs.declared.LabelPosition.{LabelPosition}
-use Rattle.whole.specs.Step.{State, element, cleared, printed, ended, refused}
+use Rattle.walk_theory.specs.Step.{State, element, cleared, printed, ended, refused}
 use Rattle.walk.specs.Steps.{EplAnswer, stateOf}
 use Rattle.flat.specs.Steps.{flatOf}
 use Rattle.flat.specs.Frames.{frameFlat, answerFrame, stateIn}

@@ -10,7 +10,7 @@ use Rattle.elements.specs.declared.DataSpan.{DataSpan}
 use Rattle.elements.specs.declared.LabelPosition.{LabelPosition}
 use Rattle.element_frames.specs.Frame.{be32, number, float, part, sized, decoded, head}
 use Rattle.element_frames.specs.Frame.{frameOf, labelFrame, pendingFrame, refusalFrame}
-use Rattle.whole.specs.Step.{State, element, cleared, printed, ended, refused}
+use Rattle.walk_theory.specs.Step.{State, element, cleared, printed, ended, refused}
 use Rattle.walk.specs.Steps.{EplAnswer}
 use Rattle.flat.specs.declared.answer.FlatAnswer.{FlatAnswer}
 use Rattle.flat.specs.declared.answer.Element.{Element}

@@ -1,7 +1,7 @@
 -- The flat answers of the static library for those of the theory (01, "Forms that change").
 use Rattle.elements.specs.declared.LabelPosition.{LabelPosition}
 use Rattle.elements.specs.declared.walk_state.WalkState.{WalkState}
-use Rattle.whole.specs.Step.{State, element, cleared, printed, ended, refused}
+use Rattle.walk_theory.specs.Step.{State, element, cleared, printed, ended, refused}
 use Rattle.walk.specs.Steps.{EplAnswer}
 use Rattle.flat.specs.Flat.{event, answered, flatElement}
 use Rattle.flat.specs.Flat as parts

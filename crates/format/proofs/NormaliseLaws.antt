@@ -13,7 +13,7 @@ use Rattle.text.specs.Blank.{front, trimAscii, dropWhile}
 use Rattle.text.proofs.BoolLaws.{test}
 use Rattle.text.proofs.DropSteps.{rest}
 use Rattle.text.proofs.ScanLaws.{size-with, size-without}
-use Rattle.whole.specs.Language.{First, unit}
+use Rattle.walk_theory.specs.Language.{First, unit}
 use Rattle.grammar.specs.Units.{EplUnit, notLf, line, last, bytes}
 use Rattle.grammar.specs.Found.{textLine, lineBy}
 use Rattle.grammar.specs.Normal.{chunk, written, normalised, kept}
@@ -27,7 +27,7 @@ use Rattle.lines.proofs.LinesLaws.{ended-none, ended-length, index-length}
 use Rattle.lines.proofs.LinesPieceLaws.{front-le}
 use Rattle.text.specs.Fields.{indexOf}
 use Rattle.text.proofs.FieldsLaws.{index-le}
-use Rattle.whole.specs.Normal.{each}
+use Rattle.walk_theory.specs.Normal.{each}
 use Rattle.grammar.proofs.FoundLineLaws.{line-by}
 
 -- ---- a part with the LF behind it

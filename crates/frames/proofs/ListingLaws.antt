@@ -13,9 +13,9 @@ use Rattle.element_frames.specs.Frame.{be32, frameOf, labelFrame, pendingFrame}
 use Rattle.element_frames.specs.Hex.{lineOf}
 use Rattle.element_frames.proofs.FrameLaws.{frame-in}
 use Rattle.element_frames.proofs.HexLaws.{length-line, length-be32}
-use Rattle.whole.specs.Step.{step}
-use Rattle.whole.specs.Trace.{lead, after}
-use Rattle.whole.proofs.TraceLaws.{final-after, labels-after}
+use Rattle.walk_theory.specs.Step.{step}
+use Rattle.walk_theory.specs.Trace.{lead, after}
+use Rattle.walk_theory.proofs.TraceLaws.{final-after, labels-after}
 use Rattle.grammar.specs.Epl.{EplPrint, epl}
 use Rattle.grammar.proofs.FoundLaws.{reads}
 use Rattle.walk.specs.Steps.{EplTrace, stateOf, answerOf, traceOf}

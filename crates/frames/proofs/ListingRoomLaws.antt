@@ -20,12 +20,12 @@ use Rattle.parameters.specs.declared.position.Placed.{Placed}
 use Rattle.parameters.specs.declared.position.Placed.the-variants as placing
 use Rattle.parameters.specs.declared.reading.LineReading.the-variants as reading
 use Rattle.parameters.specs.Position.{placed, yields}
-use Rattle.whole.specs.Language.{yield}
-use Rattle.whole.specs.Step.{State, element, cleared, printed, ended, refused, step}
+use Rattle.walk_theory.specs.Language.{yield}
+use Rattle.walk_theory.specs.Step.{State, element, cleared, printed, ended, refused, step}
 use Rattle.elements.specs.Given.{fitting}
-use Rattle.whole.specs.Trace.{Goes, left, listed, refusal-of, final, labelsIn, trace, onAnswer}
-use Rattle.whole.proofs.TraceLaws.{trace-is, goes-step, Paid, paid-step}
-use Rattle.whole.proofs.OutcomeLaws.{ending-listed}
+use Rattle.walk_theory.specs.Trace.{Goes, left, listed, refusal-of, final, labelsIn, trace, onAnswer}
+use Rattle.walk_theory.proofs.TraceLaws.{trace-is, goes-step, Paid, paid-step}
+use Rattle.walk_theory.proofs.OutcomeLaws.{ending-listed}
 use Rattle.commands.specs.Line.{readLine}
 use Rattle.grammar.specs.Units.{Header, EplUnit, block, line, last, gw, bytes, number}
 use Rattle.grammar.specs.Epl.{epl, acts, blockSays}

@@ -15,7 +15,7 @@ use Rattle.text.proofs.WroteLaws.{wrote}
 use Rattle.element_frames.specs.Frame.{refusalFrame}
 use Rattle.element_frames.proofs.HexLaws.{length-line, length-be32}
 use Rattle.elements.specs.Given.{Due, text, denied, fitting}
-use Rattle.whole.specs.Trace.{listed, refusal-of}
+use Rattle.walk_theory.specs.Trace.{listed, refusal-of}
 use Rattle.elements.proofs.GivenLaws.{within-long, within-short}
 use Rattle.frames.specs.Listing.{FramedLabel, FramedOutcome, listingOf, outcomeOf, listingDue, dueOf}
 use Rattle.frames.specs.Printing.{refusalBy, shownOf, shownBy, printed, Took, shownFor, Shows}

@@ -5,9 +5,9 @@ use Prim.Native.Nat.{ℕ, zero, suc}
 use Rattle.element_frames.specs.Frame.{frameOf, labelFrame, pendingFrame}
 use Rattle.element_frames.specs.Hex.{lineOf}
 use Rattle.elements.specs.Given.{Due, text, denied}
-use Rattle.whole.specs.Labels.{Label}
-use Rattle.whole.specs.Reach.{Final, accepted, refusal}
-use Rattle.whole.specs.Trace.{Outcome, listed, refusal-of, outcome, final, labelsIn, lead}
+use Rattle.walk_theory.specs.Labels.{Label}
+use Rattle.walk_theory.specs.Reach.{Final, accepted, refusal}
+use Rattle.walk_theory.specs.Trace.{Outcome, listed, refusal-of, outcome, final, labelsIn, lead}
 use Rattle.grammar.specs.Epl.{EplPrint, epl}
 use Rattle.elements.specs.Walk.{fresh}
 use Rattle.walk.specs.declared.answer.Printed.{Printed}

@@ -6,8 +6,8 @@ use mathlib.Core.Bool.{Bool, false}
 use mathlib.Core.List.{List, [], _∷_, _++_, append-nil, append-assoc, reverse, reverse-append, reverse-reverse}
 use Prim.Native.Nat.{ℕ}
 use Rattle.text.specs.Blank.{isAsciiBlank, dropWhile, front, trimAscii}
-use Rattle.whole.specs.Division.{Division, done, more}
-use Rattle.whole.specs.Normal.{each}
+use Rattle.walk_theory.specs.Division.{Division, done, more}
+use Rattle.walk_theory.specs.Normal.{each}
 use Rattle.grammar.specs.Units.{EplUnit, block, line, last, bytes, All, all-nil, all-cons}
 use Rattle.grammar.specs.Epl.{epl}
 use Rattle.grammar.specs.Normal.{kept, normal, normalised}

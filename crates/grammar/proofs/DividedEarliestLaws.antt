@@ -11,12 +11,12 @@ use lib.ListN.{length}
 use borrow.Author.Tests.{ne-eqb}
 use Rattle.elements.specs.declared.LabelElement.{LabelElement}
 use Rattle.elements.specs.declared.LabelPosition.{LabelPosition}
-use Rattle.whole.specs.Language.{First, bad, unit}
-use Rattle.whole.specs.Division.{Division, done, more}
-use Rattle.whole.specs.Labels as labels-of
-use Rattle.whole.specs.Labels.{Label, goes, effect, Fails}
-use Rattle.whole.proofs.DivisionLaws.{bad≢unit, bad≢none, none≢unit, same-unit}
-use Rattle.whole.proofs.RunLaws.{leaves≢goes, goes-inj}
+use Rattle.walk_theory.specs.Language.{First, bad, unit}
+use Rattle.walk_theory.specs.Division.{Division, done, more}
+use Rattle.walk_theory.specs.Labels as labels-of
+use Rattle.walk_theory.specs.Labels.{Label, goes, effect, Fails}
+use Rattle.walk_theory.proofs.DivisionLaws.{bad≢unit, bad≢none, none≢unit, same-unit}
+use Rattle.walk_theory.proofs.RunLaws.{leaves≢goes, goes-inj}
 use Rattle.grammar.specs.Units.{EplUnit, bytes, Stands}
 use Rattle.grammar.specs.Found.{first}
 use Rattle.grammar.specs.Epl.{EplPrint, acts, epl}

@@ -9,8 +9,8 @@ use native.Mathlib.Omega.{arith}
 use lib.ListN.{length, length-append}
 use Rattle.elements.specs.declared.LabelElement.{LabelElement}
 use Rattle.elements.specs.declared.LabelPosition.{LabelPosition}
-use Rattle.whole.specs.Division.{Division, done, more}
-use Rattle.whole.specs.Labels.{Label, Labels, labels, out, Run, goes, leaves, before, andThen, closed, effect, run, labelsOf}
+use Rattle.walk_theory.specs.Division.{Division, done, more}
+use Rattle.walk_theory.specs.Labels.{Label, Labels, labels, out, Run, goes, leaves, before, andThen, closed, effect, run, labelsOf}
 use Rattle.grammar.specs.Units.{EplUnit, bytes}
 use Rattle.grammar.specs.Epl.{EplPrint, EplAct, acts, epl}
 use Rattle.grammar.specs.Ranges.{refAfter, InRange, Role, passes, clears, yields, prints, roleOf, Does}

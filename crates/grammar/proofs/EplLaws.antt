@@ -21,7 +21,7 @@ use Rattle.spelling.specs.declared.command.DataCommand.{DataCommand}
 use Rattle.spelling.specs.Command.{commandOf}
 use Rattle.commands.specs.Line.{quotedReading, commandReading, leadOf, readLine}
 use Rattle.commands.proofs.LineLaws.{lead-le}
-use Rattle.whole.specs.Language.{yield}
+use Rattle.walk_theory.specs.Language.{yield}
 use Rattle.grammar.specs.Epl.{actOf, acts}
 use Rattle.grammar.proofs.WellFormedLaws.{dataOf, yielded}
 use Rattle.elements.specs.declared.DataSpan.{DataSpan}

@@ -18,8 +18,8 @@ use Rattle.spelling.specs.Command.{isReference, isPrint, commandOf}
 use Rattle.graphics.specs.declared.gw_span.Graphic.the-variants as graphic
 use Rattle.graphics.specs.declared.gw_span.GwNumbers.{GwNumbers}
 use Rattle.graphics.specs.Block.{isLineBlank, opensGw, closes, afterHeaderField, headerNumber, fourClosed, payloadOf, gwNumbers, total, measured, headerOf, gwSpan}
-use Rattle.whole.specs.Language.{First, bad, unit}
-use Rattle.whole.proofs.DivisionLaws.{bad≢unit, bad≢none}
+use Rattle.walk_theory.specs.Language.{First, bad, unit}
+use Rattle.walk_theory.proofs.DivisionLaws.{bad≢unit, bad≢none}
 use Rattle.grammar.specs.LineFaults.{LineFault, few-a, few-b, few-2d, few-line, few-ls, few-x, type-b, type-2d, long-qr}
 use Rattle.grammar.specs.Units.{Header, EplUnit, line, last, gw, All, notLf, number}
 use Rattle.grammar.specs.WellFormed.{wellFormed}

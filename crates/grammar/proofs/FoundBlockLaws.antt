@@ -20,7 +20,7 @@ use Rattle.graphics.specs.declared.gw_span.Graphic.the-variants as graphic
 use Rattle.graphics.specs.declared.gw_span.GwNumbers.{GwNumbers}
 use Rattle.graphics.specs.declared.gw_span.GwSpan.{GwSpan}
 use Rattle.graphics.specs.Block.{isLineBlank, opensGw, inField, startsComma, closes, afterHeaderField, headerNumber, fourClosed, payloadOf, gwNumbers, total, measured, headerOf, gwSpan}
-use Rattle.whole.specs.Language.{unit}
+use Rattle.walk_theory.specs.Language.{unit}
 use Rattle.grammar.specs.Units.{Header, block, closed, gw, bytes, All, number, Block}
 use Rattle.grammar.specs.Found.{headerFields, found, first}
 use Rattle.grammar.proofs.FrontLaws.{front-drop, front-all, front-stop, drop-stop}

@@ -13,9 +13,9 @@ use Rattle.graphics.specs.declared.gw_span.Graphic.{Graphic}
 use Rattle.graphics.specs.declared.gw_span.Graphic.the-variants as graphic
 use Rattle.graphics.specs.declared.gw_span.GwSpan.{GwSpan}
 use Rattle.graphics.specs.Block.{opensGw, gwSpan}
-use Rattle.whole.specs.Language.{First, none, bad, unit}
-use Rattle.whole.specs.Division.{Reads, Firm}
-use Rattle.whole.proofs.DivisionLaws.{bad≢unit, none≢unit, bad≢none, as-unit}
+use Rattle.walk_theory.specs.Language.{First, none, bad, unit}
+use Rattle.walk_theory.specs.Division.{Reads, Firm}
+use Rattle.walk_theory.proofs.DivisionLaws.{bad≢unit, none≢unit, bad≢none, as-unit}
 use Rattle.grammar.specs.Units.{EplUnit, block, line, last, gw, bytes, Stands}
 use Rattle.grammar.specs.WellFormed.{wellFormed}
 use Rattle.grammar.specs.Found.{textLine, said, judged, found, first}

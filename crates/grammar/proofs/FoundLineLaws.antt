@@ -12,8 +12,8 @@ use Rattle.text.specs.Blank.{dropWhile, front}
 use Rattle.text.specs.Fields.{same}
 use Rattle.text.proofs.BoolLaws.{test}
 use Rattle.graphics.specs.Block.{isLineBlank, opensGw}
-use Rattle.whole.specs.Language.{none, unit}
-use Rattle.whole.proofs.DivisionLaws.{none≢unit, as-unit}
+use Rattle.walk_theory.specs.Language.{none, unit}
+use Rattle.walk_theory.proofs.DivisionLaws.{none≢unit, as-unit}
 use Rattle.grammar.specs.Units.{EplUnit, block, line, last, bytes, All, notLf}
 use Rattle.grammar.specs.Found.{lineBy, textLine}
 use Rattle.grammar.proofs.FrontLaws.{front-drop, front-all, drop-stops, front-whole, drop-whole, front-stop, drop-stop}

@@ -8,8 +8,8 @@ use lib.ListN.{length, length-append}
 use Rattle.graphics.specs.declared.gw_span.Graphic.{Graphic}
 use Rattle.graphics.specs.declared.gw_span.Graphic.the-variants as graphic
 use Rattle.graphics.specs.Block.{gwSpan}
-use Rattle.whole.specs.Language.{First, none, bad, unit}
-use Rattle.whole.specs.Normal.{each}
+use Rattle.walk_theory.specs.Language.{First, none, bad, unit}
+use Rattle.walk_theory.specs.Normal.{each}
 use Rattle.grammar.specs.Units.{EplUnit, bytes}
 use Rattle.grammar.specs.Found.{found, first}
 use Rattle.grammar.specs.Normal.{normal, chunkBy, chunk, written, normalisedBy, normalised}

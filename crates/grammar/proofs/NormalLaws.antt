@@ -11,9 +11,9 @@ use Rattle.text.proofs.BlankTrimLaws.{trim-ascii-trim-ascii}
 use Rattle.graphics.specs.declared.gw_span.Graphic.{Graphic}
 use Rattle.graphics.specs.declared.gw_span.Graphic.the-variants as graphic
 use Rattle.graphics.specs.Block.{opensGw, gwSpan}
-use Rattle.whole.specs.Language.{First, none, bad, unit}
-use Rattle.whole.specs.Normal.{each, Grows, no-longer, by-block, by-last}
-use Rattle.whole.proofs.DivisionLaws.{bad≢unit}
+use Rattle.walk_theory.specs.Language.{First, none, bad, unit}
+use Rattle.walk_theory.specs.Normal.{each, Grows, no-longer, by-block, by-last}
+use Rattle.walk_theory.proofs.DivisionLaws.{bad≢unit}
 use Rattle.text.specs.Ascii.{spelt}
 use Rattle.grammar.specs.Units.{Header, EplUnit, block, line, last, bytes, Stands}
 use Rattle.grammar.specs.Found.{textLine, found, first}

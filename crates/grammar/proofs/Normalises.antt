@@ -15,9 +15,9 @@ use Rattle.parameters.specs.Reading.{laterReading}
 use Rattle.spelling.specs.Command.{isReference, isPrint, commandOf}
 use Rattle.commands.specs.Line.{leadOf, readLine}
 use Rattle.graphics.specs.Block.{opensGw}
-use Rattle.whole.specs.Labels.{Run, goes, andThen, effect, run}
-use Rattle.whole.specs.Normal.{Solid, none-left, and-then, Normalises}
-use Rattle.whole.proofs.RunLaws.{follow, before-nil}
+use Rattle.walk_theory.specs.Labels.{Run, goes, andThen, effect, run}
+use Rattle.walk_theory.specs.Normal.{Solid, none-left, and-then, Normalises}
+use Rattle.walk_theory.proofs.RunLaws.{follow, before-nil}
 use Rattle.grammar.specs.Units.{EplUnit, block, line, last, bytes, all-nil, Command, Stands}
 use Rattle.grammar.specs.WellFormed.{wellFormed}
 use Rattle.grammar.specs.Epl.{EplPrint, actOf, epl}

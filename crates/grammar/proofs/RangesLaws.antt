@@ -56,7 +56,7 @@ use Rattle.spelling.specs.Command.{commandOf}
 use Rattle.spelling.specs.Print.{countsOf}
 use Rattle.spelling.specs.Reference.{referenceOf}
 use Rattle.commands.specs.Line.{paramsOf, withData, spanOf, quotedReading, commandReading, leadOf, readLine}
-use Rattle.whole.specs.Language.{keep, outside}
+use Rattle.walk_theory.specs.Language.{keep, outside}
 use Rattle.grammar.specs.Units.{EplUnit, block, line, last, number, Stands}
 use Rattle.grammar.specs.Ranges as ranges
 use Rattle.grammar.specs.WellFormed.{isRead, atLeast, dataCounted, dataTyped, dataSized, wellFormedAs, wellFormed}

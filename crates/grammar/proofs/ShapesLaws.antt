@@ -52,7 +52,7 @@ use Rattle.spelling.specs.declared.command.DataCommand.{DataCommand}
 use Rattle.spelling.specs.declared.command.DataCommand.the-variants as command
 use Rattle.spelling.specs.Command.{commandOf}
 use Rattle.commands.specs.Line.{paramsOf, withData, spanOf, quotedReading, commandReading, leadOf, readLine}
-use Rattle.whole.specs.Language.{yield}
+use Rattle.walk_theory.specs.Language.{yield}
 use Rattle.grammar.specs.Units.{EplUnit, block, line, last, number, Stands}
 use Rattle.grammar.specs.WellFormed.{dataCounted, dataTyped, dataSized, wellFormedAs, wellFormed}
 use Rattle.grammar.specs.Epl.{actOf, blockSays, acts}

@@ -20,8 +20,8 @@ use Rattle.graphics.specs.declared.gw_span.Graphic.the-variants as graphic
 use Rattle.graphics.specs.declared.gw_span.GwSpan.{GwSpan}
 use Rattle.graphics.specs.Block.{gwSpan}
 use Rattle.graphics.proofs.BlockLaws.{span-fits}
-use Rattle.whole.specs.Language.{bad, unit}
-use Rattle.whole.proofs.DivisionLaws.{bad≢unit, bad≢none, as-unit, none≢unit}
+use Rattle.walk_theory.specs.Language.{bad, unit}
+use Rattle.walk_theory.proofs.DivisionLaws.{bad≢unit, bad≢none, as-unit, none≢unit}
 use Rattle.grammar.specs.Units.{EplUnit, line, bytes, notLf}
 use Rattle.grammar.specs.Found.{lineBy, textLine, found, first}
 use Rattle.grammar.proofs.FrontLaws.{front-drop}

@@ -21,8 +21,8 @@ use Rattle.graphics.specs.declared.gw_span.Graphic.{Graphic}
 use Rattle.graphics.specs.declared.gw_span.Graphic.the-variants as graphic
 use Rattle.graphics.specs.declared.gw_span.GwSpan.{GwSpan}
 use Rattle.graphics.specs.Block.{gwSpan, graphicPlaced, graphicAt, blockReading, laterBlock}
-use Rattle.whole.specs.Language.{yield}
-use Rattle.whole.specs.Reading.{Reading, nothing, fault, gives, did, reading, readingOf, moved}
+use Rattle.walk_theory.specs.Language.{yield}
+use Rattle.walk_theory.specs.Reading.{Reading, nothing, fault, gives, did, reading, readingOf, moved}
 use Rattle.grammar.specs.Units as units
 use Rattle.grammar.specs.Units.{Header, gw, bytes, number}
 use Rattle.grammar.specs.Found.{found, first}

@@ -19,8 +19,8 @@ use Rattle.elements.specs.declared.LabelPosition.{LabelPosition}
 use Rattle.graphics.specs.declared.gw_span.Graphic.{Graphic}
 use Rattle.graphics.specs.declared.gw_span.Graphic.the-variants as graphic
 use Rattle.graphics.specs.Block.{gwSpan}
-use Rattle.whole.specs.Language.{unit}
-use Rattle.whole.specs.Reading.{nothing, fault, did, reading, readingOf}
+use Rattle.walk_theory.specs.Language.{unit}
+use Rattle.walk_theory.specs.Reading.{nothing, fault, did, reading, readingOf}
 use Rattle.grammar.specs.Units.{EplUnit, line, last, bytes, notLf}
 use Rattle.grammar.specs.WellFormed.{wellFormed, faultOf}
 use Rattle.grammar.specs.Found.{lineBy, said, judged, found, first}

@@ -8,8 +8,8 @@ use lib.Dec.{eqb}
 use lib.ListN.{length}
 use Rattle.elements.specs.declared.LabelElement.{LabelElement}
 use Rattle.elements.specs.declared.LabelPosition.{LabelPosition}
-use Rattle.whole.specs.Language.{keep, clear, yield, print, outside}
-use Rattle.whole.specs.Labels.{Label, flush}
+use Rattle.walk_theory.specs.Language.{keep, clear, yield, print, outside}
+use Rattle.walk_theory.specs.Labels.{Label, flush}
 use Rattle.grammar.specs.Units.{EplUnit, bytes, Stands}
 use Rattle.grammar.specs.Epl.{EplPrint, EplAct, acts}
 use Rattle.grammar.specs.Ranges.{AllFit, numbersOf, refAfter, Role, passes, clears, yields, prints, roleOf}

@@ -13,7 +13,7 @@ use Rattle.parameters.specs.declared.reading.LineReading.{LineReading}
 use Rattle.parameters.specs.declared.reading.LineReading.the-variants as reading
 use Rattle.parameters.specs.Position.{placed, yields}
 use Rattle.commands.specs.Line.{readLine}
-use Rattle.whole.specs.Language.{Act, keep, clear, yield, print, outside, Language}
+use Rattle.walk_theory.specs.Language.{Act, keep, clear, yield, print, outside, Language}
 use Rattle.grammar.specs.Units.{Header, EplUnit, block, line, last, gw, bytes, number, Stands}
 use Rattle.grammar.specs.Found.{first}
 

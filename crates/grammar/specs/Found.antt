@@ -9,7 +9,7 @@ use Rattle.elements.specs.Refusals.{numberOf}
 use Rattle.graphics.specs.declared.gw_span.Graphic.{Graphic}
 use Rattle.graphics.specs.declared.gw_span.Graphic.the-variants as graphic
 use Rattle.graphics.specs.Block.{isLineBlank, inField, headerFrom, headerOf, gwSpan}
-use Rattle.whole.specs.Language.{First, none, bad, unit}
+use Rattle.walk_theory.specs.Language.{First, none, bad, unit}
 use Rattle.grammar.specs.Units.{Header, EplUnit, block, line, last, notLf}
 use Rattle.grammar.specs.WellFormed.{wellFormed, faultOf}
 

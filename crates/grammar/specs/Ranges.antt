@@ -22,7 +22,7 @@ use Rattle.spelling.specs.declared.command.DataCommand.{DataCommand}
 use Rattle.spelling.specs.declared.command.DataCommand.the-variants.{Text, Barcode, Barcode2d}
 use Rattle.spelling.specs.Command.{commandOf}
 use Rattle.commands.specs.Line.{paramsOf}
-use Rattle.whole.specs.Language.{keep, clear, yield, print}
+use Rattle.walk_theory.specs.Language.{keep, clear, yield, print}
 use Rattle.grammar.specs.Units.{EplUnit, block, line, last, number}
 use Rattle.grammar.specs.WellFormed.{isRead}
 use Rattle.grammar.specs.Epl.{origin, EplPrint, EplAct}

@@ -6,7 +6,7 @@ use Rattle.text.specs.Blank.{trim}
 use Rattle.elements.specs.declared.LabelElement.{LabelElement}
 use Rattle.elements.specs.declared.LabelPosition.{LabelPosition}
 use Rattle.commands.specs.Line.{readLine}
-use Rattle.whole.specs.Reading.{Reading, fault, did}
+use Rattle.walk_theory.specs.Reading.{Reading, fault, did}
 use Rattle.grammar.specs.WellFormed.{wellFormed, faultOf}
 use Rattle.grammar.specs.Epl.{EplPrint, actOf}
 

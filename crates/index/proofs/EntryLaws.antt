@@ -4,9 +4,9 @@ use mathlib.Core.List.{List, _∷_}
 use Prim.Native.Nat.{ℕ, zero, suc}
 use lib.ListN.{length}
 use Rattle.lists.specs.Filled.{made}
-use Rattle.whole.specs.Index.{entries}
-use Rattle.whole.proofs.NextLaws.{turns, turns-all}
-use Rattle.whole.proofs.UnrefusedLaws.{next-from}
+use Rattle.walk_theory.specs.Index.{entries}
+use Rattle.walk_theory.proofs.NextLaws.{turns, turns-all}
+use Rattle.walk_theory.proofs.UnrefusedLaws.{next-from}
 use Rattle.grammar.specs.Epl.{epl, origin}
 use Rattle.grammar.proofs.FoundLaws.{reads}
 use Rattle.index.specs.Entries.{entriesFrom, cursorOf, begins, nextOf, WithinCursor}

@@ -20,10 +20,10 @@ use Rattle.elements.specs.declared.LabelElement.{LabelElement}
 use Rattle.elements.specs.declared.LabelPosition.{LabelPosition}
 use Rattle.spelling.specs.Command.{isReference, isPrint, commandOf}
 use Rattle.graphics.proofs.BlockLaws.{opens-other}
-use Rattle.whole.specs.Language.{First, none, bad, unit, keep, clear, yield, print, outside}
-use Rattle.whole.specs.Reading.{fault, passes, gives, did, reading, readingOf}
-use Rattle.whole.specs.Next.{Unrefused, rangeBy}
-use Rattle.whole.proofs.UnrefusedLaws.{Told, passed, drew, unrefused-unit, unrefused-sound}
+use Rattle.walk_theory.specs.Language.{First, none, bad, unit, keep, clear, yield, print, outside}
+use Rattle.walk_theory.specs.Reading.{fault, passes, gives, did, reading, readingOf}
+use Rattle.walk_theory.specs.Next.{Unrefused, rangeBy}
+use Rattle.walk_theory.proofs.UnrefusedLaws.{Told, passed, drew, unrefused-unit, unrefused-sound}
 use Rattle.grammar.specs.Units.{EplUnit, line, bytes}
 use Rattle.grammar.specs.Found.{first}
 use Rattle.grammar.specs.WellFormed.{isRead, wellFormed, faultOf}

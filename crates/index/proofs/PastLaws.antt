@@ -8,9 +8,9 @@ use lib.ListN.{length, take, drop}
 use Rattle.text.proofs.DropSteps.{rest}
 use Rattle.elements.specs.declared.LabelPosition.{LabelPosition}
 use Rattle.elements.specs.declared.walk_state.WalkState.{WalkState}
-use Rattle.whole.specs.Index.{hand}
-use Rattle.whole.specs.Next as theory
-use Rattle.whole.proofs.UnrefusedLaws.{Told, After, told-next, told-after}
+use Rattle.walk_theory.specs.Index.{hand}
+use Rattle.walk_theory.specs.Next as theory
+use Rattle.walk_theory.proofs.UnrefusedLaws.{Told, After, told-next, told-after}
 use Rattle.grammar.specs.Epl.{epl}
 use Rattle.grammar.proofs.FoundLaws.{reads}
 use Rattle.index.specs.declared.glance.Seen.{Seen}

@@ -12,10 +12,10 @@ use borrow.Author.Tests.{lt-ltb, le-ltb, ltb-false}
 use Rattle.lists.specs.Filled.{made}
 use Rattle.text.proofs.BoolLaws.{test}
 use Rattle.elements.specs.Walk.{fresh}
-use Rattle.whole.specs.Reach.{Final, accepted, refusal}
-use Rattle.whole.specs.Trace.{stops, refuses, yields, clears, prints, final, printsIn}
-use Rattle.whole.specs.Index.{Entry, filled, unfilled, indexingBy, into, entries}
-use Rattle.whole.proofs.IndexingLaws.{accepted-short, accepted-unrefused, entries-counted}
+use Rattle.walk_theory.specs.Reach.{Final, accepted, refusal}
+use Rattle.walk_theory.specs.Trace.{stops, refuses, yields, clears, prints, final, printsIn}
+use Rattle.walk_theory.specs.Index.{Entry, filled, unfilled, indexingBy, into, entries}
+use Rattle.walk_theory.proofs.IndexingLaws.{accepted-short, accepted-unrefused, entries-counted}
 use Rattle.grammar.specs.Epl.{epl, origin}
 use Rattle.grammar.proofs.FoundLaws.{reads, firm}
 use Rattle.elements.specs.declared.LabelPosition.{LabelPosition}

@@ -4,8 +4,8 @@ use Prim.Native.Nat.{ℕ, _≤_}
 use lib.ListN.{length, drop}
 use Rattle.elements.specs.declared.LabelPosition.{LabelPosition}
 use Rattle.elements.specs.Given.{longest}
-use Rattle.whole.specs.Index.{Entry}
-use Rattle.whole.specs.Next as theory
+use Rattle.walk_theory.specs.Index.{Entry}
+use Rattle.walk_theory.specs.Next as theory
 use Rattle.grammar.specs.Epl.{epl, origin}
 use Rattle.index.specs.declared.entry.LabelEntry.{LabelEntry}
 use Rattle.index.specs.declared.entry.Cursor.{Cursor}

@@ -12,8 +12,8 @@ use Rattle.text.specs.Scan.{sizeBy}
 use Rattle.text.specs.Utf8.{within}
 use Rattle.elements.specs.declared.LabelPosition.{LabelPosition}
 use Rattle.elements.specs.declared.walk_state.WalkState.{WalkState}
-use Rattle.whole.specs.Index.{hand}
-use Rattle.whole.specs.Next as theory
+use Rattle.walk_theory.specs.Index.{hand}
+use Rattle.walk_theory.specs.Next as theory
 use Rattle.grammar.specs.Epl.{epl}
 use Rattle.grammar.specs.WellFormed.{isRead}
 use Rattle.index.specs.declared.glance.Seen.{Seen}

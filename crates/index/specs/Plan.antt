@@ -6,7 +6,7 @@ use lib.ListN.{length}
 use lib.Seq.{sets}
 use Rattle.elements.specs.declared.LabelPosition.{LabelPosition}
 use Rattle.elements.specs.Refusals.{numberOf}
-use Rattle.whole.specs.Index.{Filling, filled, unfilled, indexing, filling}
+use Rattle.walk_theory.specs.Index.{Filling, filled, unfilled, indexing, filling}
 use Rattle.grammar.specs.Epl.{epl, origin}
 use Rattle.index.specs.declared.entry.LabelEntry.{LabelEntry}
 use Rattle.index.specs.declared.labels.Indexed.{Indexed}

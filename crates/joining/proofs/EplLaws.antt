@@ -8,10 +8,10 @@ use Rattle.element_frames.proofs.FrameLaws.{frame-local}
 use Rattle.graphics.specs.Block.{opensGw, gwSpan}
 use Rattle.spelling.specs.Command.{commandOf}
 use Rattle.commands.specs.Line.{readLine}
-use Rattle.whole.specs.Claims.{Local}
-use Rattle.whole.specs.Join.{Clearing, Joins}
-use Rattle.whole.specs.Labels.{Divides}
-use Rattle.whole.proofs.Join.{joins}
+use Rattle.walk_theory.specs.Claims.{Local}
+use Rattle.walk_theory.specs.Join.{Clearing, Joins}
+use Rattle.walk_theory.specs.Labels.{Divides}
+use Rattle.walk_theory.proofs.Join.{joins}
 use Rattle.grammar.specs.WellFormed.{wellFormed}
 use Rattle.grammar.specs.Found.{first}
 use Rattle.grammar.specs.Epl.{epl, origin}

@@ -12,10 +12,10 @@ use Rattle.text.proofs.BoolLaws.{test}
 use Rattle.elements.specs.Given.{longest, Due, text, denied, fitting, needed, stored}
 use Rattle.elements.specs.Walk.{fresh}
 use Rattle.element_frames.specs.Frame.{frameOf}
-use Rattle.whole.specs.Reach.{Final, accepted, refusal}
-use Rattle.whole.specs.Trace.{listed, refusal-of, ending, labelsIn}
-use Rattle.whole.specs.Strict.{Ends}
-use Rattle.whole.specs.Join.{joinDue}
+use Rattle.walk_theory.specs.Reach.{Final, accepted, refusal}
+use Rattle.walk_theory.specs.Trace.{listed, refusal-of, ending, labelsIn}
+use Rattle.walk_theory.specs.Strict.{Ends}
+use Rattle.walk_theory.specs.Join.{joinDue}
 use Rattle.grammar.specs.Epl.{epl}
 use Rattle.walk.specs.Steps.{traceOf}
 use Rattle.frames.specs.Listing.{FramedLabel, FramedOutcome, outcomeOf}

@@ -1,13 +1,13 @@
 -- Two files joined (01, "Joining two files"). The order of refusals and what is claimed of the joined text, over any
--- language of units, stand in the crate `whole` (Join).
+-- language of units, stand in the crate `walk_theory` (Join).
 use mathlib.Core.Path.{_≡_}
 use mathlib.Core.List.{List, [], _∷_}
 use Prim.Native.Nat.{ℕ}
 use lib.ListN.{length}
 use Rattle.elements.specs.Given.{Given, bytes, refused, Due, fitting, needed, stored}
 use Rattle.element_frames.specs.Frame.{frameOf}
-use Rattle.whole.specs.Trace.{Outcome, listed, refusal-of}
-use Rattle.whole.specs.Join.{joined, joinOf}
+use Rattle.walk_theory.specs.Trace.{Outcome, listed, refusal-of}
+use Rattle.walk_theory.specs.Join.{joined, joinOf}
 use Rattle.grammar.specs.Units.{EplUnit, line}
 use Rattle.grammar.specs.Epl.{epl, origin}
 use Rattle.grammar.specs.Normal.{normalised}

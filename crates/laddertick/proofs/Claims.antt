@@ -17,21 +17,21 @@ use Rattle.elements.specs.Walk.{fresh}
 use Rattle.element_frames.specs.Frame.{be32, head, frameOf}
 use Rattle.element_frames.proofs.FrameLaws.{frame-local}
 use Rattle.elements.specs.Given.{longest}
-use Rattle.whole.specs.Division.{Division}
-use Rattle.whole.specs.Labels as labels-of
-use Rattle.whole.specs.Labels.{flush, Label, labels, labelsOf}
-use Rattle.whole.specs.Index.{opens, entries, opening}
-use Rattle.whole.specs.Reach as theory
-use Rattle.whole.specs.Reach.{Final, accepted, refusal}
-use Rattle.whole.specs.Normal.{each, Normal}
-use Rattle.whole.specs.Trace.{listed, ending}
-use Rattle.whole.specs.Claims.{Local, Walks}
-use Rattle.whole.proofs.DivisionLaws.{unique}
-use Rattle.whole.proofs.Whole.{whole}
-use Rattle.whole.proofs.Again.{normal-text}
-use Rattle.whole.proofs.Index.{indexed}
-use Rattle.whole.proofs.OutcomeLaws.{divides→listed, listed→divides}
-use Rattle.whole.proofs.TraceLaws.{reach-outcome}
+use Rattle.walk_theory.specs.Division.{Division}
+use Rattle.walk_theory.specs.Labels as labels-of
+use Rattle.walk_theory.specs.Labels.{flush, Label, labels, labelsOf}
+use Rattle.walk_theory.specs.Index.{opens, entries, opening}
+use Rattle.walk_theory.specs.Reach as theory
+use Rattle.walk_theory.specs.Reach.{Final, accepted, refusal}
+use Rattle.walk_theory.specs.Normal.{each, Normal}
+use Rattle.walk_theory.specs.Trace.{listed, ending}
+use Rattle.walk_theory.specs.Claims.{Local, Walks}
+use Rattle.walk_theory.proofs.DivisionLaws.{unique}
+use Rattle.walk_theory.proofs.Whole.{whole}
+use Rattle.walk_theory.proofs.Again.{normal-text}
+use Rattle.walk_theory.proofs.Index.{indexed}
+use Rattle.walk_theory.proofs.OutcomeLaws.{divides→listed, listed→divides}
+use Rattle.walk_theory.proofs.TraceLaws.{reach-outcome}
 use Rattle.elements.proofs.GivenLaws.{within-short}
 use Rattle.grammar.specs.Units.{EplUnit}
 use Rattle.grammar.specs.WellFormed.{wellFormed, faultOf}
@@ -73,7 +73,7 @@ use Rattle.strict.proofs.ListingLaws.{own-due}
 use Rattle.strict.proofs.VerdictLaws.{accepted-by, clean-listed, listed-accepted, refused-plain, objected-by}
 use Rattle.frames.proofs.ListingRoomLaws.{length-listing-le, never-short}
 use Rattle.index.specs.declared.entry.LabelEntry.{LabelEntry}
-use Rattle.whole.specs.Join as theory-join
+use Rattle.walk_theory.specs.Join as theory-join
 use Rattle.joining.specs.Join.{joinedText, clearLine}
 use Rattle.joining.proofs.JoinLaws.{due-first, due-second, due-long, due-text}
 use Rattle.joining.proofs.EplLaws.{epl-joins}

@@ -23,14 +23,14 @@ use Rattle.elements.specs.Spans.{In}
 use Rattle.elements.specs.Walk.{fresh}
 use Rattle.element_frames.specs.Frame.{frameOf}
 use Rattle.elements.specs.Given.{Due, text, denied, Fills, givenOf, longest}
-use Rattle.whole.specs.Step.{State, handing, answer, step}
-use Rattle.whole.specs.Step as theory
-use Rattle.whole.specs.Trace.{refuses, final, Within, ending, refusal-of, onAnswer, trace, labelsIn}
+use Rattle.walk_theory.specs.Step.{State, handing, answer, step}
+use Rattle.walk_theory.specs.Step as theory
+use Rattle.walk_theory.specs.Trace.{refuses, final, Within, ending, refusal-of, onAnswer, trace, labelsIn}
 use Rattle.elements.proofs.GivenLaws.{fills-kept, text-written, text-short, refusal-due, within-long}
-use Rattle.whole.proofs.TurnLaws.{step-long, step-past, step-many}
-use Rattle.whole.proofs.TraceLaws.{trace-is, goes-by}
-use Rattle.whole.proofs.TraceLaws as trace-laws
-use Rattle.whole.proofs.RefusalLaws.{Says, says-step}
+use Rattle.walk_theory.proofs.TurnLaws.{step-long, step-past, step-many}
+use Rattle.walk_theory.proofs.TraceLaws.{trace-is, goes-by}
+use Rattle.walk_theory.proofs.TraceLaws as trace-laws
+use Rattle.walk_theory.proofs.RefusalLaws.{Says, says-step}
 use Rattle.grammar.specs.Epl.{epl}
 use Rattle.grammar.proofs.FoundLaws.{reads}
 use Rattle.grammar.proofs.RangesLaws.{outside-numbers}

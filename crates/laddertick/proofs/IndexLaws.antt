@@ -22,11 +22,11 @@ use Rattle.elements.specs.Given.{Due, text, denied, Fills, givenOf, longest}
 use Rattle.elements.specs.Walk.{fresh}
 use Rattle.elements.proofs.GivenLaws.{fills-kept}
 use Rattle.element_frames.specs.Frame.{frameOf}
-use Rattle.whole.specs.Index as theory
-use Rattle.whole.specs.Index.{Along, filled, unfilled, opens, denies, into, indexingBy, entries, firstIn, EntryOf, Indexed}
-use Rattle.whole.specs.Reach.{Final, accepted, refusal}
-use Rattle.whole.specs.Trace.{final, onAnswer, trace}
-use Rattle.whole.proofs.TraceLaws.{trace-is}
+use Rattle.walk_theory.specs.Index as theory
+use Rattle.walk_theory.specs.Index.{Along, filled, unfilled, opens, denies, into, indexingBy, entries, firstIn, EntryOf, Indexed}
+use Rattle.walk_theory.specs.Reach.{Final, accepted, refusal}
+use Rattle.walk_theory.specs.Trace.{final, onAnswer, trace}
+use Rattle.walk_theory.proofs.TraceLaws.{trace-is}
 use Rattle.grammar.specs.Epl.{epl, origin}
 use Rattle.grammar.proofs.FoundLaws.{reads}
 use Rattle.walk.specs.declared.answer.Answer.{Answer}

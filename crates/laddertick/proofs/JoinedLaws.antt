@@ -10,10 +10,10 @@ use Rattle.elements.specs.declared.walk_state.WalkState.{WalkState}
 use Rattle.elements.specs.Given.{text, denied, longest}
 use Rattle.elements.specs.Walk.{fresh}
 use Rattle.element_frames.specs.Frame.{frameOf}
-use Rattle.whole.specs.Reach as theory
-use Rattle.whole.specs.Reach.{Final, then, Reach}
-use Rattle.whole.specs.Trace.{ending}
-use Rattle.whole.proofs.TraceLaws.{reach-outcome}
+use Rattle.walk_theory.specs.Reach as theory
+use Rattle.walk_theory.specs.Reach.{Final, then, Reach}
+use Rattle.walk_theory.specs.Trace.{ending}
+use Rattle.walk_theory.proofs.TraceLaws.{reach-outcome}
 use Rattle.grammar.specs.Epl.{epl}
 use Rattle.grammar.proofs.FoundLaws.{reads}
 use Rattle.walk.specs.declared.answer.Answer.{Answer}

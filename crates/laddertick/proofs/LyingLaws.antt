@@ -16,13 +16,13 @@ use Rattle.elements.specs.declared.LabelPosition.{LabelPosition}
 use Rattle.elements.specs.declared.refusal.Refusal.{Refusal}
 use Rattle.elements.proofs.GivenLaws.{bytes≢refused, fills-kept, text-written, text-short, refusal-due, within-long, within-short}
 use Rattle.element_frames.specs.Frame.{frameOf}
-use Rattle.whole.specs.Index.{opens, denies, firstIn, openingFound, opening}
-use Rattle.whole.specs.Labels.{Label}
-use Rattle.whole.specs.Step as steps-of
-use Rattle.whole.specs.Step.{State, element, cleared, printed, ended, step}
-use Rattle.whole.specs.Trace as trace-of
-use Rattle.whole.specs.Trace.{stops, refuses, yields, clears, prints, onAnswer, trace}
-use Rattle.whole.proofs.TraceLaws.{goes-by}
+use Rattle.walk_theory.specs.Index.{opens, denies, firstIn, openingFound, opening}
+use Rattle.walk_theory.specs.Labels.{Label}
+use Rattle.walk_theory.specs.Step as steps-of
+use Rattle.walk_theory.specs.Step.{State, element, cleared, printed, ended, step}
+use Rattle.walk_theory.specs.Trace as trace-of
+use Rattle.walk_theory.specs.Trace.{stops, refuses, yields, clears, prints, onAnswer, trace}
+use Rattle.walk_theory.proofs.TraceLaws.{goes-by}
 use Rattle.grammar.specs.Epl.{EplPrint, epl}
 use Rattle.grammar.proofs.FoundLaws.{reads}
 use Rattle.walk.specs.Steps.{EplAnswer, EplTrace}

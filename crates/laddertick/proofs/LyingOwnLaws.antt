@@ -18,11 +18,11 @@ use Rattle.elements.specs.declared.LabelPosition.{LabelPosition}
 use Rattle.elements.specs.declared.plain.Fields.{Fields}
 use Rattle.elements.specs.declared.plain.Plain.{Plain}
 use Rattle.elements.proofs.PlainLaws.{plain-on-span}
-use Rattle.whole.specs.Index.{Opening, opens, denies, firstIn, openingFound, opening}
-use Rattle.whole.specs.Labels.{Label, flush}
-use Rattle.whole.specs.Language.{keep, clear, yield, print, outside}
-use Rattle.whole.specs.Step as steps-of
-use Rattle.whole.specs.Trace.{stops, refuses, yields, clears, prints, trace}
+use Rattle.walk_theory.specs.Index.{Opening, opens, denies, firstIn, openingFound, opening}
+use Rattle.walk_theory.specs.Labels.{Label, flush}
+use Rattle.walk_theory.specs.Language.{keep, clear, yield, print, outside}
+use Rattle.walk_theory.specs.Step as steps-of
+use Rattle.walk_theory.specs.Trace.{stops, refuses, yields, clears, prints, trace}
 use Rattle.grammar.specs.Epl.{EplAct, EplPrint, acts, epl}
 use Rattle.grammar.specs.Units.{EplUnit}
 use Rattle.grammar.specs.Ranges as ranges

@@ -22,9 +22,9 @@ use Rattle.spelling.specs.Command.{isReference, isPrint, commandOf}
 use Rattle.spelling.specs.Print.{isCounts, countsOf}
 use Rattle.spelling.specs.Reference.{referenceOf}
 use Rattle.commands.specs.Line.{paramsOf, quotedReading, readLine}
-use Rattle.whole.specs.Labels.{flush}
-use Rattle.whole.specs.Step.{handing, answer, step}
-use Rattle.whole.specs.Trace.{trace}
+use Rattle.walk_theory.specs.Labels.{flush}
+use Rattle.walk_theory.specs.Step.{handing, answer, step}
+use Rattle.walk_theory.specs.Trace.{trace}
 use Rattle.grammar.specs.Found.{first}
 use Rattle.grammar.specs.WellFormed.{wellFormed, faultOf}
 use Rattle.element_frames.specs.Frame.{be32, head, extentBytes, barBytes, rowBytes, scaleBytes, fieldBytes, frameOf, labelFrame}

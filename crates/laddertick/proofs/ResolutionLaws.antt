@@ -7,7 +7,7 @@ use lib.ListN.{length, take, getD}
 use borrow.Author.Tests.{lt-ltb}
 use Rattle.element_frames.specs.Frame.{frameOf}
 use Rattle.elements.specs.Given.{longest}
-use Rattle.whole.specs.Index as theory
+use Rattle.walk_theory.specs.Index as theory
 use Rattle.frames.specs.Listing.{FramedLabel}
 use Rattle.index.specs.declared.entry.LabelEntry.{LabelEntry}
 use Rattle.index.specs.Entries.{noEntry}

@@ -52,10 +52,10 @@ use Rattle.spelling.specs.declared.command.DataCommand.{DataCommand}
 use Rattle.spelling.specs.declared.command.DataCommand.the-variants as command
 use Rattle.spelling.specs.Command.{commandOf}
 use Rattle.commands.specs.Line.{paramsOf, withData, spanOf, quotedReading, commandReading, leadOf, readLine}
-use Rattle.whole.specs.Language.{yield}
-use Rattle.whole.specs.Step.{State, Answer, step}
-use Rattle.whole.specs.Step as theory
-use Rattle.whole.proofs.TraceLaws.{Paid, paid-step}
+use Rattle.walk_theory.specs.Language.{yield}
+use Rattle.walk_theory.specs.Step.{State, Answer, step}
+use Rattle.walk_theory.specs.Step as theory
+use Rattle.walk_theory.proofs.TraceLaws.{Paid, paid-step}
 use Rattle.grammar.specs.Units.{EplUnit, block, line, last, number}
 use Rattle.grammar.specs.Epl.{epl, acts, blockSays}
 use Rattle.grammar.proofs.EplLaws.{act-yields}

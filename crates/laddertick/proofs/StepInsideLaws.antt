@@ -11,9 +11,9 @@ use Rattle.elements.specs.declared.DataSpan.{DataSpan}
 use Rattle.elements.specs.declared.LabelElement.{LabelElement}
 use Rattle.elements.specs.declared.LabelPosition.{LabelPosition}
 use Rattle.elements.specs.Spans.{later, spans, AllIn, In}
-use Rattle.whole.specs.Language.{First, none, bad, unit, keep, clear, yield, print, outside}
+use Rattle.walk_theory.specs.Language.{First, none, bad, unit, keep, clear, yield, print, outside}
 use Rattle.elements.specs.Given.{longest}
-use Rattle.whole.specs.Step.{State, element, cleared, printed, ended, refused, handing, printing, onAct, onFirst, answerBy, answer, step}
+use Rattle.walk_theory.specs.Step.{State, element, cleared, printed, ended, refused, handing, printing, onAct, onFirst, answerBy, answer, step}
 use Rattle.grammar.specs.Units.{EplUnit, bytes}
 use Rattle.grammar.specs.Epl.{EplPrint, EplAct, acts, epl}
 use Rattle.grammar.proofs.FoundLaws.{reads}

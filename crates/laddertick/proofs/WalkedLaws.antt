@@ -7,9 +7,9 @@ use native.Mathlib.Omega.{arith}
 use Rattle.elements.specs.declared.LabelPosition.{LabelPosition}
 use Rattle.elements.specs.declared.walk_state.WalkState.{WalkState}
 use Rattle.element_frames.specs.Frame.{frameOf}
-use Rattle.whole.specs.Step.{State}
-use Rattle.whole.specs.Reach as theory
-use Rattle.whole.specs.Reach.{Final, Then, then, Reach}
+use Rattle.walk_theory.specs.Step.{State}
+use Rattle.walk_theory.specs.Reach as theory
+use Rattle.walk_theory.specs.Reach.{Final, Then, then, Reach}
 use Rattle.grammar.specs.Epl.{epl}
 use Rattle.walk.specs.declared.answer.Answer.{Answer}
 use Rattle.walk.specs.declared.answer.Answer.the-variants.{Element, Clear, Print, End, Refused}

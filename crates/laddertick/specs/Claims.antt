@@ -30,15 +30,15 @@ use Rattle.parameters.specs.declared.reading.LineReading.the-variants as readin
 use Rattle.spelling.specs.declared.command.Command.{Command}
 use Rattle.spelling.specs.Command.{commandOf}
 use Rattle.commands.specs.Line.{readLine}
-use Rattle.whole.specs.Language.{bad, yield, outside}
-use Rattle.whole.specs.Division.{Division}
+use Rattle.walk_theory.specs.Language.{bad, yield, outside}
+use Rattle.walk_theory.specs.Division.{Division}
 use Rattle.elements.specs.Given.{longest}
-use Rattle.whole.specs.Step.{State, element, cleared, ended, refused}
-use Rattle.whole.specs.Reach.{Final, accepted, refusal}
-use Rattle.whole.specs.Trace.{listed}
-use Rattle.whole.specs.Normal.{each}
-use Rattle.whole.specs.Index.{Along, EntryOf, opens}
-use Rattle.whole.specs.Labels.{Label}
+use Rattle.walk_theory.specs.Step.{State, element, cleared, ended, refused}
+use Rattle.walk_theory.specs.Reach.{Final, accepted, refusal}
+use Rattle.walk_theory.specs.Trace.{listed}
+use Rattle.walk_theory.specs.Normal.{each}
+use Rattle.walk_theory.specs.Index.{Along, EntryOf, opens}
+use Rattle.walk_theory.specs.Labels.{Label}
 use Rattle.text.specs.Ascii.{spelt}
 use Rattle.grammar.specs.WellFormed.{wellFormed, faultOf}
 use Rattle.grammar.specs.Units.{Header, EplUnit, block, line, last, Stands}
@@ -73,7 +73,7 @@ use Rattle.spots.specs.Element.{insideOf, touchingOf, distances, FirstLeast}
 use Rattle.finds.specs.declared.found.Found.the-variants as found
 use Rattle.finds.specs.Found as spots
 use Rattle.finds.specs.Found.{itself, openingOf, spotOf}
-use Rattle.whole.specs.Index as theory
+use Rattle.walk_theory.specs.Index as theory
 use Rattle.opening.specs.Opened as opening
 use Rattle.dots.specs.declared.element.Element300.{Element300}
 use Rattle.dots.specs.Length.{Near, Nearest, to300}
@@ -95,7 +95,7 @@ use Rattle.laddertick.specs.Indexed as tabled
 use Rattle.laddertick.specs.Joined as joined
 use Rattle.laddertick.specs.Changed as changed
 use Rattle.spelling.specs.declared.command.Command.the-variants.{Clear, Print}
-use Rattle.whole.specs.Labels.{flush}
+use Rattle.walk_theory.specs.Labels.{flush}
 use Rattle.grammar.specs.Epl.{EplPrint}
 use Rattle.changes.specs.OneLine.{Ending, unitOf, Replaced, Quiet, Is, Between, Next, saysOf, atHand, InLabel, Counted}
 use Rattle.laddertick.specs.Lying as laid

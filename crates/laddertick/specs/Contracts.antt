@@ -14,7 +14,7 @@ use Rattle.writing.specs.Plain.{plainDue}
 use Rattle.writing_label.specs.Label.{plainLabelDue, plainLabelDue300}
 use Rattle.elements.specs.declared.walk_state.WalkState.{WalkState}
 use Rattle.elements.specs.Given.{bytes, refused, Fills, givenOf}
-use Rattle.whole.specs.Step.{step}
+use Rattle.walk_theory.specs.Step.{step}
 use Rattle.grammar.specs.Epl.{epl}
 use Rattle.walk.specs.declared.answer.Answer.{Answer}
 use Rattle.walk.specs.Steps.{stateOf, answerOf}

@@ -10,7 +10,7 @@ use Prim.Native.String.{String}
 use Prim.Native.String as string
 use lib.Dec.{eqb}
 use Rattle.text.specs.Ascii.{ascii, spelt}
-use Rattle.whole.specs.Step.{refused}
+use Rattle.walk_theory.specs.Step.{refused}
 use Rattle.laddertick.specs.Table.{Case, lists, case, fresh}
 
 -- the characters of a text without its blanks, and then t

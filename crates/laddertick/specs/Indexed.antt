@@ -6,7 +6,7 @@ use Prim.Native.String.{String}
 use lib.IntN.{ℤ, pos}
 use Rattle.text.specs.Ascii.{ascii}
 use Rattle.elements.specs.Given.{text, denied}
-use Rattle.whole.specs.Index.{filled, unfilled}
+use Rattle.walk_theory.specs.Index.{filled, unfilled}
 use Rattle.index.specs.declared.entry.LabelEntry.{LabelEntry}
 use Rattle.index.specs.Entries.{EplEntry, entryOf}
 use Rattle.laddertick.specs.Table.{Case, indexes, opens}

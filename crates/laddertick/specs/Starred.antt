@@ -10,7 +10,7 @@ use Rattle.elements.specs.declared.LabelElement.{LabelElement}
 use Rattle.elements.specs.declared.LabelElement.the-variants.{Text, GraphicBox, DiagonalLine, GraphicField}
 use Rattle.elements.specs.declared.LabelPosition.{LabelPosition}
 use Rattle.elements.specs.declared.LineColor.the-variants.{Black}
-use Rattle.whole.specs.Step.{state, element, cleared, printed, ended, refused}
+use Rattle.walk_theory.specs.Step.{state, element, cleared, printed, ended, refused}
 use Rattle.grammar.specs.Epl.{origin, EplPrint}
 use Rattle.walk.specs.Steps.{EplAnswer}
 use Rattle.laddertick.specs.Table.{fresh, Case, case, normal, listing}

@@ -9,8 +9,8 @@ use Prim.Native.String.{String}
 use Rattle.elements.specs.declared.LabelPosition.{LabelPosition}
 use Rattle.elements.specs.Walk as walk
 use Rattle.elements.specs.Given.{Due, text}
-use Rattle.whole.specs.Step.{State, element, cleared, printed, ended, refused, step}
-use Rattle.whole.specs.Trace.{left}
+use Rattle.walk_theory.specs.Step.{State, element, cleared, printed, ended, refused, step}
+use Rattle.walk_theory.specs.Trace.{left}
 use Rattle.text.specs.Ascii.{ascii}
 use Rattle.grammar.specs.Epl.{epl}
 use Rattle.grammar.specs.Normal.{normalised}

@@ -8,7 +8,7 @@ use Rattle.decoding.specs.Decoding as decoding
 use Rattle.finds.specs.Found.{insideDue, touchingDue, nearestDue}
 use Rattle.flat.specs.Written.{givenFlat, countedFlat, spotFlat}
 use Rattle.elements.specs.Given.{Fills}
-use Rattle.whole.specs.Step as theory
+use Rattle.walk_theory.specs.Step as theory
 use Rattle.grammar.specs.Epl.{epl}
 use Rattle.walk.specs.Steps.{stateOf}
 use Rattle.flat.specs.Steps.{flatOf}

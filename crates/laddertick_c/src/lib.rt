@@ -2,7 +2,7 @@
 ghost use mathlib.Core.Path.{_≡_};
 ghost use lib.ListN.{length};
 ghost use Rattle.elements.specs.Given.{Fills};
-ghost use Rattle.whole.specs.Step as theory;
+ghost use Rattle.walk_theory.specs.Step as theory;
 ghost use Rattle.grammar.specs.Epl.{epl};
 ghost use Rattle.decoding.specs.Decoding as decoding;
 ghost use Rattle.finds.specs.Found.{insideDue, touchingDue, nearestDue};

@@ -15,8 +15,8 @@ use Rattle.elements.specs.Given.{denied, longest}
 use Rattle.elements.specs.declared.LabelElement.{LabelElement}
 use Rattle.elements.specs.declared.refusal.Refusal.the-variants.{InputTooLong, StateOutside, NoSuchLabel}
 use Rattle.elements.specs.declared.walk_state.WalkState.{WalkState}
-use Rattle.whole.specs.Trace.{stops, refuses, yields, clears, prints, lead, after}
-use Rattle.whole.specs.Index.{denies, firstIn, openingBy, openingFound, opening}
+use Rattle.walk_theory.specs.Trace.{stops, refuses, yields, clears, prints, lead, after}
+use Rattle.walk_theory.specs.Index.{denies, firstIn, openingBy, openingFound, opening}
 use Rattle.grammar.specs.Epl.{epl}
 use Rattle.walk.specs.Steps.{EplTrace, traceOf}
 use Rattle.index.specs.Entries.{entryOf, entriesOf, noEntry}

@@ -12,7 +12,7 @@ use Rattle.elements.specs.Refusals.{numberOf}
 use Rattle.elements.specs.declared.LabelElement.{LabelElement}
 use Rattle.elements.specs.declared.refusal.Refusal.the-variants.{InputTooLong, StateOutside, NoSuchLabel}
 use Rattle.elements.specs.declared.walk_state.WalkState.{WalkState}
-use Rattle.whole.specs.Index.{Opening, opens, denies, firstIn, opening}
+use Rattle.walk_theory.specs.Index.{Opening, opens, denies, firstIn, opening}
 use Rattle.grammar.specs.Epl.{EplPrint, epl}
 use Rattle.walk.specs.Steps.{traceOf}
 use Rattle.index.specs.Entries.{entriesOf}

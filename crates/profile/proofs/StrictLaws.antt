@@ -13,13 +13,13 @@ use Rattle.elements.specs.declared.LabelElement.{LabelElement}
 use Rattle.elements.specs.declared.LabelPosition.{LabelPosition}
 use Rattle.spelling.specs.Command.{isReference, isPrint, commandOf}
 use Rattle.graphics.specs.Block.{opensGw, gwSpan}
-use Rattle.whole.specs.Language.{First, bad}
-use Rattle.whole.specs.Division.{Division, done, more, Reads}
-use Rattle.whole.specs.Labels.{Fails, faulty, beyond, later}
-use Rattle.whole.specs.Step.{State}
-use Rattle.whole.specs.Trace.{trace}
-use Rattle.whole.specs.Strict.{unless, Along}
-use Rattle.whole.proofs.StrictLaws.{strict-stands, stands-strict, strict-reads, along-trace}
+use Rattle.walk_theory.specs.Language.{First, bad}
+use Rattle.walk_theory.specs.Division.{Division, done, more, Reads}
+use Rattle.walk_theory.specs.Labels.{Fails, faulty, beyond, later}
+use Rattle.walk_theory.specs.Step.{State}
+use Rattle.walk_theory.specs.Trace.{trace}
+use Rattle.walk_theory.specs.Strict.{unless, Along}
+use Rattle.walk_theory.proofs.StrictLaws.{strict-stands, stands-strict, strict-reads, along-trace}
 use Rattle.grammar.specs.Units.{EplUnit, bytes}
 use Rattle.grammar.specs.Found.{first}
 use Rattle.grammar.specs.Epl.{epl}

@@ -5,8 +5,8 @@ use mathlib.Core.List.{List}
 use mathlib.Core.Logic.{_⊎_}
 use mathlib.Core.Option.{Option, none, some}
 use Prim.Native.Nat.{ℕ}
-use Rattle.whole.specs.Language.{Language}
-use Rattle.whole.specs.Strict.{strictly}
+use Rattle.walk_theory.specs.Language.{Language}
+use Rattle.walk_theory.specs.Strict.{strictly}
 use Rattle.grammar.specs.Epl.{epl}
 use Rattle.profile.specs.declared.rule.Objection.{Objection}
 use Rattle.profile.specs.declared.rule.Objection.the-variants.{Fine, To}

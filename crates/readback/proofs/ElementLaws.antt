@@ -28,9 +28,9 @@ use Rattle.barcodes.specs.Barcode.{code128, interleaved, code39, ean13, ean8, u
 use Rattle.barcodes_2d.specs.declared.barcode_2d.Symbology2d.the-variants as two
 use Rattle.barcodes_2d.specs.Barcode2d.{aztecReading, datamatrixReading, maxicodeReading, pdf417Reading, qrReading}
 use Rattle.commands.specs.Line.{readLine}
-use Rattle.whole.specs.Language.{keep}
-use Rattle.whole.specs.Labels.{goes, run}
-use Rattle.whole.specs.Normal.{Solid, none-left, and-then}
+use Rattle.walk_theory.specs.Language.{keep}
+use Rattle.walk_theory.specs.Labels.{goes, run}
+use Rattle.walk_theory.specs.Normal.{Solid, none-left, and-then}
 use Rattle.grammar.specs.WellFormed.{wellFormed}
 use Rattle.grammar.specs.Units.{EplUnit, block, line, all-nil, Command}
 use Rattle.grammar.specs.Epl.{origin, actOf, acts, epl}

@@ -35,7 +35,7 @@ use Rattle.spelling.specs.declared.command.Command.the-variants.{Clear, Referen
 use Rattle.spelling.specs.Command.{commandOf}
 use Rattle.commands.specs.Line.{spanOf, commandReading, leadOf, readLine}
 use Rattle.commands.proofs.LineLaws.{lead-le}
-use Rattle.whole.specs.Language.{yield}
+use Rattle.walk_theory.specs.Language.{yield}
 use Rattle.parameters.specs.declared.position.Placed.{Placed}
 use Rattle.parameters.specs.declared.position.Placed.the-variants as placing
 use Rattle.parameters.specs.Position.{placed, yields}

@@ -17,7 +17,7 @@ use Rattle.elements.specs.declared.GraphicField.{GraphicField}
 use Rattle.elements.specs.declared.LabelElement.{LabelElement}
 use Rattle.elements.specs.declared.LabelElement.the-variants as element
 use Rattle.graphics.specs.Block.{inField}
-use Rattle.whole.specs.Language.{yield}
+use Rattle.walk_theory.specs.Language.{yield}
 use Rattle.grammar.specs.Units.{Header, block, closed, gw, All, all-nil, all-cons, Block, bytes}
 use Rattle.grammar.specs.Epl.{origin, acts}
 use Rattle.element_frames.specs.Frame.{part}

@@ -25,18 +25,18 @@ use Rattle.spelling.specs.declared.command.Command.the-variants.{Print}
 use Rattle.spelling.specs.Command.{isReference, isPrint, commandOf}
 use Rattle.spelling.specs.Print.{isCounts, countsOf}
 use Rattle.commands.specs.Line.{readLine}
-use Rattle.whole.specs.Language.{clear, print, yield}
-use Rattle.whole.specs.Division.{Division}
-use Rattle.whole.specs.Labels.{Label, goes, run, flush, closed, labels, labelsOf}
-use Rattle.whole.specs.Labels as labelled
-use Rattle.whole.specs.Normal.{each, Solid, none-left, and-then}
-use Rattle.whole.specs.Step.{state, handing}
-use Rattle.whole.specs.Reach.{Reach}
-use Rattle.whole.specs.Claims.{Local}
-use Rattle.whole.proofs.Whole.{whole}
-use Rattle.whole.proofs.RunLaws.{before-nil, run-goes}
-use Rattle.whole.proofs.SolidLaws.{each-append, solid-append, solid-divides}
-use Rattle.whole.proofs.StepLaws.{step-act}
+use Rattle.walk_theory.specs.Language.{clear, print, yield}
+use Rattle.walk_theory.specs.Division.{Division}
+use Rattle.walk_theory.specs.Labels.{Label, goes, run, flush, closed, labels, labelsOf}
+use Rattle.walk_theory.specs.Labels as labelled
+use Rattle.walk_theory.specs.Normal.{each, Solid, none-left, and-then}
+use Rattle.walk_theory.specs.Step.{state, handing}
+use Rattle.walk_theory.specs.Reach.{Reach}
+use Rattle.walk_theory.specs.Claims.{Local}
+use Rattle.walk_theory.proofs.Whole.{whole}
+use Rattle.walk_theory.proofs.RunLaws.{before-nil, run-goes}
+use Rattle.walk_theory.proofs.SolidLaws.{each-append, solid-append, solid-divides}
+use Rattle.walk_theory.proofs.StepLaws.{step-act}
 use Rattle.grammar.specs.WellFormed.{wellFormed}
 use Rattle.grammar.specs.Units.{EplUnit, line, bytes, all-nil, all-cons, Command}
 use Rattle.grammar.specs.Epl.{origin, acts, epl}

@@ -6,7 +6,7 @@ use Prim.Native.Nat.{ℕ}
 use lib.ListN.{length}
 use Rattle.elements.specs.declared.LabelElement.{LabelElement}
 use Rattle.elements.specs.Spans.{In}
-use Rattle.whole.specs.Language.{yield}
+use Rattle.walk_theory.specs.Language.{yield}
 use Rattle.grammar.specs.Units.{EplUnit, bytes, Stands}
 use Rattle.grammar.specs.Epl.{origin, acts}
 use Rattle.readback.specs.Shown.{shown}

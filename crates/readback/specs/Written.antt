@@ -13,11 +13,11 @@ use Rattle.elements.specs.declared.plain.Fields.{Fields}
 use Rattle.elements.specs.declared.plain.Fields.the-variants as fields
 use Rattle.elements.specs.Given.{longest}
 use Rattle.elements.specs.Plain.{plainOf}
-use Rattle.whole.specs.Division.{Division}
-use Rattle.whole.specs.Labels.{Label, goes, run, labels, labelsOf}
-use Rattle.whole.specs.Normal.{each}
-use Rattle.whole.specs.Reach.{accepted, Reach, answered}
-use Rattle.whole.specs.Step.{State, Answer, state, element, step}
+use Rattle.walk_theory.specs.Division.{Division}
+use Rattle.walk_theory.specs.Labels.{Label, goes, run, labels, labelsOf}
+use Rattle.walk_theory.specs.Normal.{each}
+use Rattle.walk_theory.specs.Reach.{accepted, Reach, answered}
+use Rattle.walk_theory.specs.Step.{State, Answer, state, element, step}
 use Rattle.grammar.specs.Units.{Header, EplUnit, block, line}
 use Rattle.grammar.specs.Epl.{origin, epl}
 use Rattle.decimals.specs.Decimal.{decimal}

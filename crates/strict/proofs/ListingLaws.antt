@@ -8,9 +8,9 @@ use native.Mathlib.Omega.{arith}
 use Rattle.elements.specs.Given.{denied}
 use Rattle.elements.specs.Walk.{fresh}
 use Rattle.element_frames.specs.Frame.{frameOf}
-use Rattle.whole.specs.Reach.{Final, accepted, refusal}
-use Rattle.whole.specs.Trace.{ending, trace, final, labelsIn}
-use Rattle.whole.specs.Strict.{Along}
+use Rattle.walk_theory.specs.Reach.{Final, accepted, refusal}
+use Rattle.walk_theory.specs.Trace.{ending, trace, final, labelsIn}
+use Rattle.walk_theory.specs.Strict.{Along}
 use Rattle.grammar.specs.Epl.{epl}
 use Rattle.walk.specs.Steps.{EplTrace, stateOf, traceOf}
 use Rattle.frames.specs.Listing.{FramedLabel, listingDue, dueOf}

@@ -13,13 +13,13 @@ use lib.Seq.{drop-drop}
 use borrow.Author.Tests.{lt-ltb, le-ltb, ne-eqb}
 use Rattle.elements.specs.Given.{longest}
 use Rattle.elements.specs.Walk.{fresh}
-use Rattle.whole.specs.Step as theory
-use Rattle.whole.specs.Reach.{Final, accepted, refusal}
-use Rattle.whole.specs.Trace.{final}
-use Rattle.whole.specs.Strict.{orElse, reached, objectedBy, Ends}
-use Rattle.whole.proofs.TraceLaws.{trace-by}
-use Rattle.whole.proofs.TurnLaws.{step-long}
-use Rattle.whole.proofs.StrictEndLaws.{final-ends, strict-final}
+use Rattle.walk_theory.specs.Step as theory
+use Rattle.walk_theory.specs.Reach.{Final, accepted, refusal}
+use Rattle.walk_theory.specs.Trace.{final}
+use Rattle.walk_theory.specs.Strict.{orElse, reached, objectedBy, Ends}
+use Rattle.walk_theory.proofs.TraceLaws.{trace-by}
+use Rattle.walk_theory.proofs.TurnLaws.{step-long}
+use Rattle.walk_theory.proofs.StrictEndLaws.{final-ends, strict-final}
 use Rattle.grammar.specs.Size.{unitSize}
 use Rattle.grammar.specs.Epl.{epl, origin}
 use Rattle.grammar.proofs.FoundLaws.{reads}

@@ -4,10 +4,10 @@ use mathlib.Core.Path.{_≡_, sym, ap, _∙_}
 use mathlib.Core.List.{List}
 use Prim.Native.Nat.{ℕ}
 use Rattle.elements.specs.declared.walk_state.WalkState.{WalkState}
-use Rattle.whole.specs.Step.{step}
-use Rattle.whole.specs.Reach.{Final}
-use Rattle.whole.specs.Trace.{Goes, onAnswer, trace, final}
-use Rattle.whole.proofs.TraceLaws.{trace-by, goes-by}
+use Rattle.walk_theory.specs.Step.{step}
+use Rattle.walk_theory.specs.Reach.{Final}
+use Rattle.walk_theory.specs.Trace.{Goes, onAnswer, trace, final}
+use Rattle.walk_theory.proofs.TraceLaws.{trace-by, goes-by}
 use Rattle.grammar.specs.Epl.{epl}
 use Rattle.grammar.proofs.FoundLaws.{reads}
 use Rattle.walk.specs.Steps.{stateOf, answerOf}

@@ -14,14 +14,14 @@ use Rattle.elements.specs.Given.{longest}
 use Rattle.elements.specs.Walk.{fresh}
 use Rattle.element_frames.specs.Frame.{frameOf}
 use Rattle.element_frames.proofs.FrameLaws.{frame-local}
-use Rattle.whole.specs.Labels.{Label, Divides}
-use Rattle.whole.specs.Reach.{Final, accepted, refusal, answered}
-use Rattle.whole.specs.Trace.{listed, refusal-of, ending, trace, final, labelsIn}
-use Rattle.whole.specs.Claims.{Local, Walks}
-use Rattle.whole.specs.Strict.{Along, Ends}
-use Rattle.whole.proofs.TraceLaws.{reach-outcome}
-use Rattle.whole.proofs.Whole.{whole}
-use Rattle.whole.proofs.OutcomeLaws.{ending-listed, divides→listed, listed→divides}
+use Rattle.walk_theory.specs.Labels.{Label, Divides}
+use Rattle.walk_theory.specs.Reach.{Final, accepted, refusal, answered}
+use Rattle.walk_theory.specs.Trace.{listed, refusal-of, ending, trace, final, labelsIn}
+use Rattle.walk_theory.specs.Claims.{Local, Walks}
+use Rattle.walk_theory.specs.Strict.{Along, Ends}
+use Rattle.walk_theory.proofs.TraceLaws.{reach-outcome}
+use Rattle.walk_theory.proofs.Whole.{whole}
+use Rattle.walk_theory.proofs.OutcomeLaws.{ending-listed, divides→listed, listed→divides}
 use Rattle.grammar.specs.Epl.{epl, origin}
 use Rattle.grammar.proofs.EplLaws.{inside}
 use Rattle.walk.specs.Steps.{stateOf, traceOf}

@@ -4,7 +4,7 @@ use Prim.Native.Nat.{ℕ}
 use Rattle.elements.specs.Given.{Due}
 use Rattle.elements.specs.Walk.{fresh}
 use Rattle.element_frames.specs.Frame.{frameOf}
-use Rattle.whole.specs.Trace.{outcome}
+use Rattle.walk_theory.specs.Trace.{outcome}
 use Rattle.walk.specs.Steps.{stateOf}
 use Rattle.frames.specs.Listing.{FramedOutcome, listingDue}
 use Rattle.profile.specs.Strict.{strict}

@@ -6,8 +6,8 @@ use Prim.Native.Nat.{ℕ, zero, suc, _+_}
 use lib.Dec.{ltb}
 use lib.ListN.{drop}
 use Rattle.elements.specs.declared.walk_state.WalkState.{WalkState}
-use Rattle.whole.specs.Reach.{Final, accepted, refusal}
-use Rattle.whole.specs.Trace.{final}
+use Rattle.walk_theory.specs.Reach.{Final, accepted, refusal}
+use Rattle.walk_theory.specs.Trace.{final}
 use Rattle.grammar.specs.Size.{unitSize}
 use Rattle.walk.specs.Steps.{traceOf}
 use Rattle.profile.specs.declared.rule.Objection.{Objection}

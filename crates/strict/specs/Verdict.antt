@@ -5,8 +5,8 @@ use Prim.Native.Nat.{ℕ}
 use lib.Dec.{eqb}
 use lib.ListN.{drop}
 use Rattle.elements.specs.Walk.{fresh}
-use Rattle.whole.specs.Reach.{Final, accepted, refusal}
-use Rattle.whole.specs.Trace.{trace, final}
+use Rattle.walk_theory.specs.Reach.{Final, accepted, refusal}
+use Rattle.walk_theory.specs.Trace.{trace, final}
 use Rattle.walk.specs.Steps.{stateOf}
 use Rattle.profile.specs.declared.rule.Held.{Held}
 use Rattle.profile.specs.declared.rule.Objection.{Objection}

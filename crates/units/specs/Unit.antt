@@ -2,7 +2,7 @@
 use Rattle.elements.specs.declared.LabelElement.{LabelElement}
 use Rattle.elements.specs.declared.LabelPosition.{LabelPosition}
 use Rattle.elements.specs.Refusals.{numberOf}
-use Rattle.whole.specs.Reading as theory
+use Rattle.walk_theory.specs.Reading as theory
 use Rattle.grammar.specs.Epl.{origin, EplPrint}
 use Rattle.units.specs.declared.unit.Reading.{Reading}
 use Rattle.units.specs.declared.unit.Reading.the-variants as unit

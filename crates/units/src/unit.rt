@@ -3,7 +3,7 @@
 ghost use mathlib.Core.Path.{_≡_};
 ghost use Prim.Native.Nat.{_+_, _<_};
 ghost use lib.ListN.{length};
-ghost use Rattle.whole.specs.Reading.{did, readingOf, moved};
+ghost use Rattle.walk_theory.specs.Reading.{did, readingOf, moved};
 ghost use Rattle.grammar.specs.Epl.{epl, actOf};
 ghost use Rattle.grammar.specs.Turn.{lineTurn};
 ghost use Rattle.text.specs.Fields.{indexOf};

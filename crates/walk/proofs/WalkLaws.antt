@@ -4,9 +4,9 @@ use mathlib.Core.Path.{_≡_, sym, ap, _∙_}
 use mathlib.Core.List.{List}
 use Prim.Native.Nat.{ℕ}
 use Rattle.elements.specs.declared.walk_state.WalkState.{WalkState}
-use Rattle.whole.specs.Step.{step}
-use Rattle.whole.specs.Trace.{trace, onAnswer, Goes}
-use Rattle.whole.proofs.TraceLaws.{trace-by, goes-by}
+use Rattle.walk_theory.specs.Step.{step}
+use Rattle.walk_theory.specs.Trace.{trace, onAnswer, Goes}
+use Rattle.walk_theory.proofs.TraceLaws.{trace-by, goes-by}
 use Rattle.grammar.specs.Epl.{epl}
 use Rattle.grammar.proofs.FoundLaws.{reads}
 use Rattle.walk.specs.Steps.{EplTrace, stateOf, answerOf, traceOf}

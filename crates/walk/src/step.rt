@@ -3,7 +3,7 @@ ghost use mathlib.Core.Path.{_≡_};
 ghost use Prim.Native.Nat.{_≤_};
 ghost use lib.ListN.{length, drop};
 ghost use Rattle.elements.specs.Given.{longest};
-ghost use Rattle.whole.specs.Step.{step, answer, handing};
+ghost use Rattle.walk_theory.specs.Step.{step, answer, handing};
 ghost use Rattle.grammar.specs.Epl.{epl};
 ghost use Rattle.walk.specs.Steps.{stateOf, answerOf};
 use crate::answer::Answer;

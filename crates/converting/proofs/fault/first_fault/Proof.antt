@@ -7,7 +7,7 @@ use Prim.Native.Nat.{ℕ, suc, _-_}
 use native.Mathlib.Omega.{arith}
 use lib.ListN.{length}
 use borrow.Author.Tests.{ne-eqb}
-use Rattle.whole.specs.Trace.{lead}
+use Rattle.walk_theory.specs.Trace.{lead}
 use Rattle.grammar.specs.Epl.{epl}
 use Rattle.walk.specs.Steps.{stateOf, answerOf}
 use Rattle.walk.specs.declared.answer.Answer.{Answer}

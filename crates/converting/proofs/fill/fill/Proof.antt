@@ -2,7 +2,7 @@
 use mathlib.Core.List.{List}
 use Prim.Native.Nat.{ℕ}
 use denote.Triple.Table.{cited}
-use Rattle.whole.specs.Step.{element, cleared, printed, ended, refused, step}
+use Rattle.walk_theory.specs.Step.{element, cleared, printed, ended, refused, step}
 use Rattle.grammar.specs.Epl.{epl}
 use Rattle.walk.specs.Steps.{EplAnswer, stateOf}
 use Rattle.converting.specs.Walked.{onElement, WithinCursor, nextOf}

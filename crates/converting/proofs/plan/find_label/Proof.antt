@@ -6,7 +6,7 @@ use Prim.Native.Nat.{ℕ, _-_}
 use native.Mathlib.Omega.{arith}
 use lib.ListN.{length}
 use Rattle.elements.specs.Refusals.{numberOf}
-use Rattle.whole.specs.Trace.{stops, refuses, clears, prints, after, trace}
+use Rattle.walk_theory.specs.Trace.{stops, refuses, clears, prints, after, trace}
 use Rattle.grammar.specs.Epl.{epl}
 use Rattle.walk.specs.Steps.{stateOf, answerOf}
 use Rattle.walk.specs.declared.answer.Answer.{Answer}

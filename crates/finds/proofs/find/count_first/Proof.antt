@@ -8,8 +8,8 @@ use native.Mathlib.Omega.{arith}
 use lib.ListN.{length}
 use Rattle.elements.specs.Refusals.{numberOf}
 use Rattle.elements.specs.declared.LabelElement.{LabelElement}
-use Rattle.whole.specs.Trace.{stops, refuses, clears, prints, after, trace}
-use Rattle.whole.specs.Index.{firstIn}
+use Rattle.walk_theory.specs.Trace.{stops, refuses, clears, prints, after, trace}
+use Rattle.walk_theory.specs.Index.{firstIn}
 use Rattle.grammar.specs.Epl.{epl}
 use Rattle.walk.specs.Steps.{EplTrace, stateOf, traceOf}
 use Rattle.walk.specs.declared.answer.Answer.{Answer}

@@ -9,7 +9,7 @@ use Rattle.elements.specs.Refusals.{numberOf}
 use Rattle.elements.specs.declared.LabelElement.{LabelElement}
 use Rattle.elements.specs.declared.LabelPosition.{LabelPosition}
 use Rattle.elements.specs.declared.walk_state.WalkState.{WalkState}
-use Rattle.whole.specs.Index.{firstIn}
+use Rattle.walk_theory.specs.Index.{firstIn}
 use Rattle.grammar.specs.Epl.{epl}
 use Rattle.walk.specs.Steps.{EplTrace, traceOf}
 use Rattle.walk.specs.declared.answer.Answer.{Answer}

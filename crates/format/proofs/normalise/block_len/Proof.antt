@@ -13,7 +13,7 @@ use Rattle.graphics.specs.declared.gw_span.Graphic.the-variants as graphic
 use Rattle.graphics.specs.declared.gw_span.GwSpan.{GwSpan}
 use Rattle.graphics.specs.Block.{opensGw, gwSpan}
 use Rattle.graphics.proofs.BlockLaws.{span-fits}
-use Rattle.whole.specs.Language.{First, unit}
+use Rattle.walk_theory.specs.Language.{First, unit}
 use Rattle.grammar.specs.Units.{EplUnit, Header, block, line, bytes}
 use Rattle.grammar.specs.Found.{textLine}
 use Rattle.grammar.specs.Normal.{written, chunkBy, chunk}

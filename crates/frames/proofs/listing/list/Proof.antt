@@ -11,8 +11,8 @@ use Rattle.elements.specs.Given.{needed, givenOf, bytes, text}
 use Rattle.elements.proofs.GivenLaws.{needed-denied, fills-denied, fills-short, fills-written, bytes≢refused, bytes-inj}
 use Rattle.frames.specs.Listing.{dueOf, FramedLabel, listingOf, listingDue, pendingAt, textFrom}
 use Rattle.element_frames.specs.Frame.{frameOf}
-use Rattle.whole.specs.Reach.{Final, accepted, refusal}
-use Rattle.whole.specs.Trace.{ending, final, labelsIn}
+use Rattle.walk_theory.specs.Reach.{Final, accepted, refusal}
+use Rattle.walk_theory.specs.Trace.{ending, final, labelsIn}
 use Rattle.grammar.specs.Epl.{epl}
 use Rattle.elements.specs.Walk.{fresh}
 use Rattle.walk.specs.Steps.{traceOf}

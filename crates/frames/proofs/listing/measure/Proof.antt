@@ -15,9 +15,9 @@ use Rattle.elements.specs.declared.walk_state.WalkState.{WalkState}
 use Rattle.walk.proofs.WalkLaws.{onStep, Moved, begins, moved-by}
 use Rattle.frames.proofs.ListingLaws.{length-lines, length-label, length-pending-le, frame-len-le, frame-len-is}
 use Rattle.element_frames.specs.Frame.{frameOf}
-use Rattle.whole.specs.Reach.{Final, accepted, refusal}
+use Rattle.walk_theory.specs.Reach.{Final, accepted, refusal}
 use Rattle.elements.specs.Given.{Given, bytes, refused, needed}
-use Rattle.whole.specs.Trace.{stops, refuses, yields, clears, prints, ending, final, labelsIn}
+use Rattle.walk_theory.specs.Trace.{stops, refuses, yields, clears, prints, ending, final, labelsIn}
 use Rattle.grammar.specs.Epl.{epl}
 use Rattle.frames.specs.Listing.{FramedLabel, linesOf, labelLines, pendingLine, listingOf, listingDue, dueOf}
 use borrow.Author.Needs.{needs}

@@ -6,7 +6,7 @@ use Prim.Native.Nat.{ℕ, _-_}
 use native.Mathlib.Omega.{arith}
 use lib.ListN.{length}
 use Rattle.text.proofs.WroteTowardLaws.{Toward, begin, room, put, finish}
-use Rattle.whole.specs.Trace.{lead}
+use Rattle.walk_theory.specs.Trace.{lead}
 use Rattle.grammar.specs.Epl.{epl}
 use Rattle.element_frames.specs.Frame.{frameOf}
 use Rattle.element_frames.specs.Hex.{lineOf}

@@ -6,7 +6,7 @@ use Prim.Native.Nat.{ℕ, _-_}
 use native.Mathlib.Omega.{arith}
 use lib.ListN.{length}
 use Rattle.text.proofs.WroteTowardLaws.{Toward, begin, retold, room, put, finish}
-use Rattle.whole.specs.Trace.{after}
+use Rattle.walk_theory.specs.Trace.{after}
 use Rattle.walk.specs.Steps.{traceOf}
 use Rattle.elements.specs.declared.walk_state.WalkState.{WalkState}
 use Rattle.walk.specs.declared.answer.Answer.{Answer}

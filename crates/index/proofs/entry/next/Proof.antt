@@ -7,11 +7,11 @@ use native.Mathlib.Omega.{arith}
 use lib.ListN.{length}
 use Rattle.elements.specs.declared.LabelPosition.{LabelPosition}
 use Rattle.elements.specs.declared.walk_state.WalkState.{WalkState}
-use Rattle.whole.specs.Index.{Hand, hand, handAt}
-use Rattle.whole.specs.Next as theory
-use Rattle.whole.proofs.NextLaws.{onTold, told-at, moves-told, next-some, next-none}
-use Rattle.whole.proofs.TraceLaws.{Moves}
-use Rattle.whole.proofs.UnrefusedLaws.{Behind, unrefused-behind}
+use Rattle.walk_theory.specs.Index.{Hand, hand, handAt}
+use Rattle.walk_theory.specs.Next as theory
+use Rattle.walk_theory.proofs.NextLaws.{onTold, told-at, moves-told, next-some, next-none}
+use Rattle.walk_theory.proofs.TraceLaws.{Moves}
+use Rattle.walk_theory.proofs.UnrefusedLaws.{Behind, unrefused-behind}
 use Rattle.grammar.specs.Epl.{epl}
 use Rattle.grammar.proofs.FoundLaws.{reads}
 use Rattle.walk.specs.Steps.{stateOf, answerOf}

@@ -8,8 +8,8 @@ use lib.ListN.{length, length-append}
 use Rattle.element_frames.specs.Frame.{frameOf}
 use Rattle.element_frames.specs.Hex.{lineOf}
 use Rattle.element_frames.proofs.HexLaws.{length-line}
-use Rattle.whole.specs.Trace.{stops, refuses, clears, prints, after, lead, trace}
-use Rattle.whole.specs.Index.{firstIn}
+use Rattle.walk_theory.specs.Trace.{stops, refuses, clears, prints, after, lead, trace}
+use Rattle.walk_theory.specs.Index.{firstIn}
 use Rattle.grammar.specs.Epl.{epl}
 use Rattle.elements.specs.Refusals.{numberOf}
 use Rattle.walk.specs.Steps.{EplTrace, stateOf, traceOf}

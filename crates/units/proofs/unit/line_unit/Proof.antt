@@ -3,7 +3,7 @@ use mathlib.Core.Path.{_≡_, sym, ap}
 use Prim.Native.Nat.{ℕ}
 use Rattle.elements.specs.declared.LabelPosition.{LabelPosition}
 use Rattle.parameters.specs.declared.reading.LineReading.{LineReading}
-use Rattle.whole.specs.Reading.{did}
+use Rattle.walk_theory.specs.Reading.{did}
 use Rattle.grammar.specs.Epl.{actOf}
 use Rattle.numbers.proofs.IntLaws.{back32}
 use borrow.Author.Needs.{needs}

@@ -12,7 +12,7 @@ use Rattle.parameters.specs.declared.reading.LineReading.{LineReading}
 use Rattle.parameters.specs.declared.reading.LineReading.the-variants as reading
 use Rattle.parameters.specs.Reading.{laterReading}
 use Rattle.commands.specs.Line.{readLine}
-use Rattle.whole.specs.Reading.{fault, did, moved}
+use Rattle.walk_theory.specs.Reading.{fault, did, moved}
 use Rattle.grammar.specs.WellFormed.{wellFormed}
 use Rattle.grammar.specs.Epl.{actOf, epl}
 use Rattle.grammar.specs.Turn.{lineTurn}

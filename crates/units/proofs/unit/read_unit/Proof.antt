@@ -7,7 +7,7 @@ use lib.ListN.{length}
 use Rattle.grammar.proofs.TurnLineLaws.{line-reads, line-none}
 use Rattle.grammar.proofs.TurnBlockLaws.{block-none, block-fault, block-gives}
 use Rattle.elements.specs.declared.LabelPosition.{LabelPosition}
-use Rattle.whole.specs.Reading.{nothing, readingOf}
+use Rattle.walk_theory.specs.Reading.{nothing, readingOf}
 use Rattle.grammar.specs.Epl.{epl}
 use borrow.Author.Needs.{needs}
 use Rattle.units.proofs.unit.read_unit.Statement.{statement}

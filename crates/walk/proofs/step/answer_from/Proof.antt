@@ -7,8 +7,8 @@ use native.Mathlib.Omega.{arith}
 use native.Mathlib.Numerals.{add-one}
 use lib.ListN.{length, drop, length-take}
 use Rattle.elements.specs.declared.walk_state.WalkState.{WalkState}
-use Rattle.whole.specs.Step.{answer, handing}
-use Rattle.whole.proofs.TurnLaws.{Fits, onReading, turn-at, fits-at, pass-on, print-none, print-some}
+use Rattle.walk_theory.specs.Step.{answer, handing}
+use Rattle.walk_theory.proofs.TurnLaws.{Fits, onReading, turn-at, fits-at, pass-on, print-none, print-some}
 use Rattle.grammar.specs.Epl.{epl}
 use Rattle.grammar.proofs.FoundLaws.{reads}
 use Rattle.numbers.proofs.IntLaws.{back32}
