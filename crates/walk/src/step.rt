@@ -13,8 +13,8 @@ use elements::PrintCounts;
 use elements::refusal::LONGEST;
 use elements::refusal::Refusal;
 use elements::walk_state::WalkState;
-use units::unit::Reading;
-use units::unit::read_unit;
+use walk_unit::unit::Reading;
+use walk_unit::unit::read_unit;
 
 // The step: an element, a clear, a print, the end, or a refusal with the state as given.
 pub fn step(input: &[u8], st: WalkState) -> Answer

@@ -12,10 +12,10 @@ use Rattle.walk_theory.proofs.TurnLaws.{Fits, onReading, turn-at, fits-at, pass
 use Rattle.grammar.specs.Epl.{epl}
 use Rattle.grammar.proofs.FoundLaws.{reads}
 use Rattle.numbers.proofs.IntLaws.{back32}
-use Rattle.units.specs.Unit.{unitOf}
+use Rattle.walk_unit.specs.Unit.{unitOf}
 use Rattle.walk.specs.Steps.{stateOf}
-use Rattle.units.specs.declared.unit.Reading.{Reading}
-use Rattle.units.specs.declared.unit.Reading.the-variants.{End, Fault, Passed, Cleared, Element, Print}
+use Rattle.walk_unit.specs.declared.unit.Reading.{Reading}
+use Rattle.walk_unit.specs.declared.unit.Reading.the-variants.{End, Fault, Passed, Cleared, Element, Print}
 use borrow.Author.Needs.{needs}
 use Rattle.walk.proofs.step.answer_from.Statement.{statement}
 use Rattle.walk.proofs.step.answer_from.Tie as tie

@@ -1,4 +1,4 @@
--- `units::unit::read_unit` meets its contract. Assumes nothing.
+-- `walk_unit::unit::read_unit` meets its contract. Assumes nothing.
 use mathlib.Core.Path.{sym, _∙_, _≡_}
 use mathlib.Core.List.{List, [], _∷_}
 use Prim.Native.Nat.{ℕ}
@@ -10,8 +10,8 @@ use Rattle.elements.specs.declared.LabelPosition.{LabelPosition}
 use Rattle.walk_theory.specs.Reading.{nothing, readingOf}
 use Rattle.grammar.specs.Epl.{epl}
 use borrow.Author.Needs.{needs}
-use Rattle.units.proofs.unit.read_unit.Statement.{statement}
-use Rattle.units.proofs.unit.read_unit.Tie as tie
+use Rattle.walk_unit.proofs.unit.read_unit.Statement.{statement}
+use Rattle.walk_unit.proofs.unit.read_unit.Tie as tie
 
 reading-none : (t : List ℕ) (r : LabelPosition) → length t ≡ 0 → readingOf epl t r ≡ nothing
 reading-none [] r h = line-none r

@@ -1,4 +1,4 @@
--- `units::unit::line_unit` meets its contract. Assumes nothing.
+-- `walk_unit::unit::line_unit` meets its contract. Assumes nothing.
 use mathlib.Core.Path.{_≡_, sym, ap}
 use Prim.Native.Nat.{ℕ}
 use Rattle.elements.specs.declared.LabelPosition.{LabelPosition}
@@ -7,8 +7,8 @@ use Rattle.walk_theory.specs.Reading.{did}
 use Rattle.grammar.specs.Epl.{actOf}
 use Rattle.numbers.proofs.IntLaws.{back32}
 use borrow.Author.Needs.{needs}
-use Rattle.units.proofs.unit.line_unit.Statement.{statement}
-use Rattle.units.proofs.unit.line_unit.Tie as tie
+use Rattle.walk_unit.proofs.unit.line_unit.Statement.{statement}
+use Rattle.walk_unit.proofs.unit.line_unit.Tie as tie
 
 by : (size : ℕ) (r : LabelPosition) {p q : LineReading} → p ≡ q → did size (actOf r q) ≡ did size (actOf r p)
 by size r e = ap (λ (x : LineReading). did size (actOf r x)) (sym e)

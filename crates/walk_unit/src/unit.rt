@@ -9,7 +9,7 @@ ghost use Rattle.grammar.specs.Turn.{lineTurn};
 ghost use Rattle.text.specs.Fields.{indexOf};
 ghost use Rattle.text.specs.Scan.{sizeBy};
 ghost use lib.ListN.{take};
-ghost use Rattle.units.specs.Unit.{unitOf};
+ghost use Rattle.walk_unit.specs.Unit.{unitOf};
 use bytes::scan::find;
 use bytes::scan::line_size;
 use commands::line::read_line;

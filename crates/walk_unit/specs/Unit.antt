@@ -4,8 +4,8 @@ use Rattle.elements.specs.declared.LabelPosition.{LabelPosition}
 use Rattle.elements.specs.Refusals.{numberOf}
 use Rattle.walk_theory.specs.Reading as theory
 use Rattle.grammar.specs.Epl.{origin, EplPrint}
-use Rattle.units.specs.declared.unit.Reading.{Reading}
-use Rattle.units.specs.declared.unit.Reading.the-variants as unit
+use Rattle.walk_unit.specs.declared.unit.Reading.{Reading}
+use Rattle.walk_unit.specs.declared.unit.Reading.the-variants as unit
 
 abbrev pub unitOf : Reading → theory.Reading LabelPosition LabelElement EplPrint
 unitOf unit.End = theory.nothing

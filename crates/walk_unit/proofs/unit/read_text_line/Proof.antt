@@ -1,4 +1,4 @@
--- `units::unit::read_text_line` meets its contract. Assumes nothing.
+-- `walk_unit::unit::read_text_line` meets its contract. Assumes nothing.
 use mathlib.Core.Path.{sym, _≡_, refl, ap, _∙_}
 use mathlib.Core.List.{List}
 use Prim.Native.Nat.{ℕ}
@@ -18,8 +18,8 @@ use Rattle.grammar.specs.Epl.{actOf, epl}
 use Rattle.grammar.specs.Turn.{lineTurn}
 use Rattle.grammar.proofs.WellFormedLaws.{ill-formed}
 use borrow.Author.Needs.{needs}
-use Rattle.units.proofs.unit.read_text_line.Statement.{statement}
-use Rattle.units.proofs.unit.read_text_line.Tie as tie
+use Rattle.walk_unit.proofs.unit.read_text_line.Statement.{statement}
+use Rattle.walk_unit.proofs.unit.read_text_line.Tie as tie
 
 -- a line that is not well formed is refused by its reader with the number of its fault
 line-turn : (size : ℕ) (r : LabelPosition) (t : List ℕ) → did size (actOf r (readLine t r)) ≡ lineTurn size r t
