@@ -21,10 +21,10 @@ use Rattle.grammar.proofs.NormalChunkLaws.{normalised-is}
 use Rattle.grammar.proofs.TurnLineLaws.{front-index}
 use Rattle.grammar.proofs.NormalLaws.{normalised-nil}
 use Rattle.grammar.proofs.UnitsTrimmedLaws.{length-trimmed-le}
-use Rattle.lines.specs.Lines.{ended, lineSize}
+use Rattle.normal_lines.specs.Lines.{ended, lineSize}
 use Rattle.format.specs.Normalise.{Blocks}
-use Rattle.lines.proofs.LinesLaws.{ended-none, ended-length, index-length}
-use Rattle.lines.proofs.LinesPieceLaws.{front-le}
+use Rattle.normal_lines.proofs.LinesLaws.{ended-none, ended-length, index-length}
+use Rattle.normal_lines.proofs.LinesPieceLaws.{front-le}
 use Rattle.text.specs.Fields.{indexOf}
 use Rattle.text.proofs.FieldsLaws.{index-le}
 use Rattle.walk_theory.specs.Normal.{each}

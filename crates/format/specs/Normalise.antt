@@ -4,7 +4,7 @@ use mathlib.Core.Path.{_≡_}
 use mathlib.Core.List.{List, _++_}
 use Prim.Native.Nat.{ℕ, _<_, _≤_}
 use lib.ListN.{length, take, drop}
-use Rattle.lines.specs.Lines.{ended}
+use Rattle.normal_lines.specs.Lines.{ended}
 use Rattle.elements.specs.Given.{Due, text, within, longest}
 use Rattle.grammar.specs.Found.{textLine}
 use Rattle.grammar.specs.Normal.{chunk, written, normalised}

@@ -13,9 +13,9 @@ use elements::refusal::Refusal;
 use graphics::gw_span::Graphic;
 use graphics::gw_span::gw_span;
 use graphics::gw_span::opens_gw;
-use lines::line::line_len;
-use lines::line::put_ended;
-use lines::line::put_line;
+use normal_lines::line::line_len;
+use normal_lines::line::put_ended;
+use normal_lines::line::put_line;
 use numbers::blank::first;
 
 // How many bytes the block has that stands first in rest, which goes to the end of input; 0 where a line is taken. A

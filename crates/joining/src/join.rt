@@ -12,7 +12,7 @@ use elements::refusal::LONGEST;
 use elements::refusal::Refusal;
 use format::normalise::measure;
 use format::normalise::put_chunks;
-use lines::line::put_ended;
+use normal_lines::line::put_ended;
 use strict::check::plain;
 
 // The length of the joined text.

@@ -19,8 +19,8 @@ use Rattle.grammar.specs.Found.{textLine}
 use Rattle.grammar.specs.Normal.{written, chunkBy, chunk}
 use Rattle.grammar.proofs.NormalChunkLaws.{chunk-sound}
 use Rattle.grammar.proofs.UnitsTrimmedLaws.{inside}
-use Rattle.lines.specs.Lines.{ended}
-use Rattle.lines.proofs.LinesLaws.{ended-some}
+use Rattle.normal_lines.specs.Lines.{ended}
+use Rattle.normal_lines.proofs.LinesLaws.{ended-some}
 use Rattle.format.specs.Normalise.{Blocks}
 use borrow.Author.Needs.{needs}
 use Rattle.format.proofs.normalise.block_len.Statement.{statement}

@@ -8,7 +8,7 @@ use native.Mathlib.Omega.{arith}
 use lib.ListN.{length, drop}
 use Rattle.text.proofs.WroteTowardLaws.{Toward, begin, room, put, finish}
 use Rattle.grammar.specs.Normal.{normalised}
-use Rattle.lines.specs.Lines.{ended}
+use Rattle.normal_lines.specs.Lines.{ended}
 use Rattle.format.proofs.NormaliseLaws.{Stands, normalised-end, block-turn, block-in, line-in, line-some, line-turn, line-counts}
 use borrow.Author.Needs.{needs}
 use Rattle.format.proofs.normalise.put_chunks.Statement.{statement}

@@ -1,4 +1,4 @@
--- `lines::line::piece` meets its contract. Assumes nothing.
+-- `normal_lines::line::piece` meets its contract. Assumes nothing.
 use mathlib.Core.Path.{sym, ap, _∙_}
 use Prim.Native.Nat.{ℕ}
 use lib.ListN.{take}
@@ -6,8 +6,8 @@ use Rattle.text.specs.Blank.{front}
 use Rattle.grammar.specs.Units.{notLf}
 use Rattle.grammar.proofs.TurnLineLaws.{front-index}
 use borrow.Author.Needs.{needs}
-use Rattle.lines.proofs.line.piece.Statement.{statement}
-use Rattle.lines.proofs.line.piece.Tie as tie
+use Rattle.normal_lines.proofs.line.piece.Statement.{statement}
+use Rattle.normal_lines.proofs.line.piece.Tie as tie
 
 returns : tie.Need-returns
 returns c =

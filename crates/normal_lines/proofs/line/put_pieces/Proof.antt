@@ -1,4 +1,4 @@
--- `lines::line::put_pieces` meets its contract. Invariant: the line is written up to done, and blanks go on to seen.
+-- `normal_lines::line::put_pieces` meets its contract. Invariant: the line is written up to done, and blanks go on to seen.
 -- Measure: the bytes left. Assumes nothing.
 use mathlib.Core.Path.{_≡_, refl, sym, ap, _∙_}
 use mathlib.Core.Logic.{_⊎_, ⊎-elim, inl, inr}
@@ -10,13 +10,13 @@ use lib.Seq.{drop-drop, take-all}
 use Rattle.text.specs.Blank.{front, dropEnd, isAsciiBlank}
 use Rattle.text.proofs.WroteTowardLaws.{room, Toward, begin, put, finish}
 use Rattle.grammar.specs.Units.{notLf}
-use Rattle.lines.proofs.LinesPieceLaws.{front-le, kept-le, piece-some, piece-rest, piece-none, front-take, front-behind, front-part}
+use Rattle.normal_lines.proofs.LinesPieceLaws.{front-le, kept-le, piece-some, piece-rest, piece-none, front-take, front-behind, front-part}
 use Rattle.text.specs.Wrote.{Wrote, Put}
 use Rattle.text.proofs.DropSteps.{rest}
-use Rattle.lines.proofs.LinesLaws.{nothing}
+use Rattle.normal_lines.proofs.LinesLaws.{nothing}
 use borrow.Author.Needs.{needs}
-use Rattle.lines.proofs.line.put_pieces.Statement.{statement}
-use Rattle.lines.proofs.line.put_pieces.Tie as tie
+use Rattle.normal_lines.proofs.line.put_pieces.Statement.{statement}
+use Rattle.normal_lines.proofs.line.put_pieces.Tie as tie
 
 -- the line of t is written up to done, blanks go on from there to seen, and no LF stands before that
 record Along (t out₀ : List ℕ) (at : ℕ) (out : List ℕ) (done seen to : ℕ) : Type 0 where

@@ -8,7 +8,7 @@ use lib.ListN.{length, set, length-append, take}
 use lib.Seq.{sets, length-take-le}
 use Rattle.text.specs.Wrote.{Wrote, Put}
 use Rattle.text.proofs.WroteLaws.{wrote, wrote-as, wrote-left}
-use Rattle.lines.specs.Lines.{ended}
+use Rattle.normal_lines.specs.Lines.{ended}
 use Rattle.text.specs.Blank.{front}
 use Rattle.text.specs.Fields.{indexOf}
 use Rattle.text.proofs.FieldsLaws.{index-le}

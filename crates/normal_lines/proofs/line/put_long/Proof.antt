@@ -1,4 +1,4 @@
--- `lines::line::put_long` meets its contract: the blanks before the line, its pieces, and LF where something was
+-- `normal_lines::line::put_long` meets its contract: the blanks before the line, its pieces, and LF where something was
 -- written. Assumes nothing.
 use mathlib.Core.Path.{_≡_, sym, ap, _∙_, refl}
 use mathlib.Core.List.{List, [], _∷_}
@@ -14,13 +14,13 @@ use Rattle.text.specs.Wrote.{Put}
 use Rattle.grammar.specs.Units.{notLf}
 use Rattle.text.proofs.DropLaws.{drop-while-le}
 use Rattle.graphics.specs.Block.{isLineBlank}
-use Rattle.lines.specs.Lines.{lineSize}
-use Rattle.lines.proofs.LinesPieceLaws.{front-le}
-use Rattle.lines.proofs.LinesLaws.{ended-some, ended-le, put-empty, put-ended-at}
+use Rattle.normal_lines.specs.Lines.{lineSize}
+use Rattle.normal_lines.proofs.LinesPieceLaws.{front-le}
+use Rattle.normal_lines.proofs.LinesLaws.{ended-some, ended-le, put-empty, put-ended-at}
 use Rattle.text.proofs.BoolLaws.{test}
 use borrow.Author.Needs.{needs}
-use Rattle.lines.proofs.line.put_long.Statement.{statement}
-use Rattle.lines.proofs.line.put_long.Tie as tie
+use Rattle.normal_lines.proofs.line.put_long.Statement.{statement}
+use Rattle.normal_lines.proofs.line.put_long.Tie as tie
 
 lf-no-blank : (b : ℕ) → eqb b 10 ≡ true → isLineBlank b ≡ false
 lf-no-blank b e = let k : b ≡ 10 = eqb-true b 10 e in rw k refl

@@ -6,7 +6,7 @@ ghost use lib.ListN.{length, take};
 ghost use Rattle.text.specs.Blank.{front, dropEnd, isAsciiBlank, trimAscii};
 ghost use Rattle.text.specs.Wrote.{Put};
 ghost use Rattle.grammar.specs.Units.{notLf};
-ghost use Rattle.lines.specs.Lines.{ended, Keeps, PutsLine, PutsPieces};
+ghost use Rattle.normal_lines.specs.Lines.{ended, Keeps, PutsLine, PutsPieces};
 use bytes::put::put_bytes;
 use bytes::scan::NEAR;
 use bytes::scan::find;

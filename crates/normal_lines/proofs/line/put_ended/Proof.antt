@@ -1,9 +1,9 @@
--- `lines::line::put_ended` meets its contract: nothing, or the part and then LF. Assumes nothing.
+-- `normal_lines::line::put_ended` meets its contract: nothing, or the part and then LF. Assumes nothing.
 use native.Mathlib.Omega.{arith}
-use Rattle.lines.proofs.LinesLaws.{put-none, put-some, ended-length}
+use Rattle.normal_lines.proofs.LinesLaws.{put-none, put-some, ended-length}
 use borrow.Author.Needs.{needs}
-use Rattle.lines.proofs.line.put_ended.Statement.{statement}
-use Rattle.lines.proofs.line.put_ended.Tie as tie
+use Rattle.normal_lines.proofs.line.put_ended.Statement.{statement}
+use Rattle.normal_lines.proofs.line.put_ended.Tie as tie
 
 returns : tie.Need-returns
 returns c = let a = c .before .before .before .args in put-none (a .part .now) (c .if1 .taken) (a .out .now) (a .at)

@@ -1,14 +1,14 @@
--- `lines::line::line_len` meets its contract. Assumes nothing.
+-- `normal_lines::line::line_len` meets its contract. Assumes nothing.
 use mathlib.Core.Path.{sym, ap, _∙_}
 use Prim.Native.Nat.{ℕ}
 use lib.ListN.{length, take}
 use Rattle.text.specs.Blank.{dropEnd, isAsciiBlank, trimAscii}
 use Rattle.text.specs.Scan.{sizeBy}
 use Rattle.grammar.proofs.TurnLineLaws.{front-index}
-use Rattle.lines.proofs.LinesLaws.{index-length}
+use Rattle.normal_lines.proofs.LinesLaws.{index-length}
 use borrow.Author.Needs.{needs}
-use Rattle.lines.proofs.line.line_len.Statement.{statement}
-use Rattle.lines.proofs.line.line_len.Tie as tie
+use Rattle.normal_lines.proofs.line.line_len.Statement.{statement}
+use Rattle.normal_lines.proofs.line.line_len.Tie as tie
 
 returns : tie.Need-returns
 returns c =

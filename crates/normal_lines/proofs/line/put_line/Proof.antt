@@ -1,4 +1,4 @@
--- `lines::line::put_line` meets its contract: a line that ends near at once, and any other by its pieces. Assumes
+-- `normal_lines::line::put_line` meets its contract: a line that ends near at once, and any other by its pieces. Assumes
 -- nothing.
 use mathlib.Core.Path.{_≡_, sym, ap, _∙_}
 use mathlib.Core.List.{List}
@@ -10,11 +10,11 @@ use Rattle.text.specs.Blank.{front, dropEnd, isAsciiBlank, trimAscii}
 use Rattle.text.specs.Scan.{sizeBy}
 use Rattle.text.proofs.ScanLaws.{first-found, size-with}
 use Rattle.grammar.specs.Units.{notLf}
-use Rattle.lines.specs.Lines.{ended}
-use Rattle.lines.proofs.LinesLaws.{index-length, line-is}
+use Rattle.normal_lines.specs.Lines.{ended}
+use Rattle.normal_lines.proofs.LinesLaws.{index-length, line-is}
 use borrow.Author.Needs.{needs}
-use Rattle.lines.proofs.line.put_line.Statement.{statement}
-use Rattle.lines.proofs.line.put_line.Tie as tie
+use Rattle.normal_lines.proofs.line.put_line.Statement.{statement}
+use Rattle.normal_lines.proofs.line.put_line.Tie as tie
 
 size : (c : tie.Else1) → c .before .near .result ≡ length (front notLf (c .before .before .before .before .args .rest .now))
 size c = first-found (c .before .near .ensures .found (omega arith)) .is ∙ sym (index-length (c .before .before .before .before .args .rest .now))

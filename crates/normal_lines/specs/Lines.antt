@@ -7,8 +7,8 @@ use Rattle.text.specs.Blank.{front, dropEnd, isAsciiBlank, trimAscii}
 use Rattle.text.specs.Scan.{sizeBy}
 use Rattle.text.specs.Wrote.{Put}
 use Rattle.grammar.specs.Units.{notLf}
-use Rattle.lines.specs.declared.line.Kept.{Kept}
-use Rattle.lines.specs.declared.line.Line.{Line}
+use Rattle.normal_lines.specs.declared.line.Kept.{Kept}
+use Rattle.normal_lines.specs.declared.line.Line.{Line}
 
 -- "one left empty is dropped; every other line, and every block, copied whole, is followed by one LF"
 abbrev pub ended : List ℕ → List ℕ
