@@ -4,7 +4,7 @@ use mathlib.Core.List.{List}
 use Prim.Native.Nat.{ℕ}
 use Rattle.text.specs.Utf8.{decode}
 use Rattle.elements.specs.declared.DataSpan.{DataSpan}
-use Rattle.element_frames.specs.Frame.{part}
+use Rattle.frame_bytes.specs.Frame.{part}
 use Rattle.elements.specs.Given.{Due, text, within, longest}
 
 -- the data at d of the input s, as far as s goes

@@ -3,7 +3,7 @@ ghost use Rattle.elements.specs.Given.{Fills, givenOf};
 ghost use Rattle.decoding.specs.Decoding.{dueOf};
 use bytes::utf8::decoded_len;
 use bytes::utf8::write_decoded;
-use element_frames::data::part;
+use frame_bytes::data::part;
 use elements::DataSpan;
 use elements::filled::Filled;
 use elements::refusal::LONGEST;

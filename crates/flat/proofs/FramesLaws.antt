@@ -5,7 +5,7 @@ use mathlib.Core.List.{List}
 use Prim.Native.Nat.{ℕ}
 use Rattle.elements.specs.declared.LabelElement.{LabelElement}
 use Rattle.elements.specs.declared.LabelElement.the-variants as kind
-use Rattle.element_frames.specs.Frame.{be32, head, extentBytes, barBytes, rowBytes, scaleBytes, fieldBytes, frameOf}
+use Rattle.frame_bytes.specs.Frame.{be32, head, extentBytes, barBytes, rowBytes, scaleBytes, fieldBytes, frameOf}
 use Rattle.elements.specs.declared.LabelPosition.{LabelPosition}
 use Rattle.walk_theory.specs.Step.{State, element, cleared, printed, ended, refused}
 use Rattle.walk.specs.Steps.{EplAnswer, stateOf}

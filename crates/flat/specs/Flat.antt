@@ -12,7 +12,7 @@ use Rattle.elements.specs.declared.LabelElement.the-variants as element
 use Rattle.elements.specs.declared.LabelPosition.{LabelPosition}
 use Rattle.elements.specs.declared.PrintCounts.{PrintCounts}
 use Rattle.elements.specs.declared.walk_state.WalkState.{WalkState}
-use Rattle.element_frames.specs.Frame as frame
+use Rattle.frame_bytes.specs.Frame as frame
 use Rattle.flat.specs.declared.answer.FlatAnswer.{FlatAnswer}
 use Rattle.flat.specs.declared.answer.Element.{Element}
 use Rattle.flat.specs.Fields.{Field, saying}

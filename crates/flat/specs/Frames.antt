@@ -8,8 +8,8 @@ use lib.IntN.{natAbs}
 use lib.ListN.{length}
 use Rattle.elements.specs.declared.DataSpan.{DataSpan}
 use Rattle.elements.specs.declared.LabelPosition.{LabelPosition}
-use Rattle.element_frames.specs.Frame.{be32, number, float, part, sized, decoded, head}
-use Rattle.element_frames.specs.Frame.{frameOf, labelFrame, pendingFrame, refusalFrame}
+use Rattle.frame_bytes.specs.Frame.{be32, number, float, part, sized, decoded, head}
+use Rattle.frame_bytes.specs.Frame.{frameOf, labelFrame, pendingFrame, refusalFrame}
 use Rattle.walk_theory.specs.Step.{State, element, cleared, printed, ended, refused}
 use Rattle.walk.specs.Steps.{EplAnswer}
 use Rattle.flat.specs.declared.answer.FlatAnswer.{FlatAnswer}

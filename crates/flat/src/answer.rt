@@ -1,8 +1,8 @@
 // The flat element, the parts of one that several kinds have, and the flat answer that carries it.
 ghost use mathlib.Core.Path.{_≡_};
 ghost use Rattle.flat.specs.Flat.{placed, barred, nothing, event, printed, answered};
-use element_frames::fields::flag;
-use element_frames::fields::rotation;
+use frame_bytes::fields::flag;
+use frame_bytes::fields::rotation;
 use elements::DataSpan;
 use elements::FieldOrientation;
 use elements::LabelPosition;

@@ -9,10 +9,10 @@ use Prim.Native.Nat.{ℕ, zero, suc, _+_, _*_, _<_, _≤_, min}
 use native.Mathlib.Nat.{min-eq-right, min-le-left}
 use native.Mathlib.Omega.{arith}
 use lib.ListN.{length, length-append}
-use Rattle.element_frames.specs.Frame.{be32, frameOf, labelFrame, pendingFrame}
-use Rattle.element_frames.specs.Hex.{lineOf}
-use Rattle.element_frames.proofs.FrameLaws.{frame-in}
-use Rattle.element_frames.proofs.HexLaws.{length-line, length-be32}
+use Rattle.frame_bytes.specs.Frame.{be32, frameOf, labelFrame, pendingFrame}
+use Rattle.frame_bytes.specs.Hex.{lineOf}
+use Rattle.frame_bytes.proofs.FrameLaws.{frame-in}
+use Rattle.frame_bytes.proofs.HexLaws.{length-line, length-be32}
 use Rattle.walk_theory.specs.Step.{step}
 use Rattle.walk_theory.specs.Trace.{lead, after}
 use Rattle.walk_theory.proofs.TraceLaws.{final-after, labels-after}

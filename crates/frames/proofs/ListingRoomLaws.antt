@@ -14,8 +14,8 @@ use Rattle.elements.specs.declared.plain.Data.{Data}
 use Rattle.elements.specs.declared.plain.Data.the-variants.{NoData, Payload, Decoded}
 use Rattle.elements.specs.Plain.{plainOf}
 use Rattle.elements.specs.Spans.{spansIn, shifted}
-use Rattle.element_frames.specs.Frame.{frameOf}
-use Rattle.element_frames.proofs.FrameLaws.{frameMost, frame-le, most-shifted}
+use Rattle.frame_bytes.specs.Frame.{frameOf}
+use Rattle.frame_bytes.proofs.FrameLaws.{frameMost, frame-le, most-shifted}
 use Rattle.parameters.specs.declared.position.Placed.{Placed}
 use Rattle.parameters.specs.declared.position.Placed.the-variants as placing
 use Rattle.parameters.specs.declared.reading.LineReading.the-variants as reading

@@ -12,8 +12,8 @@ use lib.Seq.{sets, sets-eq, length-sets, take-all, length-take-le, take-append-s
 use borrow.Author.Tests.{ltb-true, ltb-false, le-ltb}
 use Rattle.text.specs.Wrote.{Put}
 use Rattle.text.proofs.WroteLaws.{wrote}
-use Rattle.element_frames.specs.Frame.{refusalFrame}
-use Rattle.element_frames.proofs.HexLaws.{length-line, length-be32}
+use Rattle.frame_bytes.specs.Frame.{refusalFrame}
+use Rattle.frame_bytes.proofs.HexLaws.{length-line, length-be32}
 use Rattle.elements.specs.Given.{Due, text, denied, fitting}
 use Rattle.walk_theory.specs.Trace.{listed, refusal-of}
 use Rattle.elements.proofs.GivenLaws.{within-long, within-short}

@@ -2,8 +2,8 @@
 -- due to `list`.
 use mathlib.Core.List.{List, [], _∷_, _++_}
 use Prim.Native.Nat.{ℕ, zero, suc}
-use Rattle.element_frames.specs.Frame.{frameOf, labelFrame, pendingFrame}
-use Rattle.element_frames.specs.Hex.{lineOf}
+use Rattle.frame_bytes.specs.Frame.{frameOf, labelFrame, pendingFrame}
+use Rattle.frame_bytes.specs.Hex.{lineOf}
 use Rattle.elements.specs.Given.{Due, text, denied}
 use Rattle.walk_theory.specs.Labels.{Label}
 use Rattle.walk_theory.specs.Reach.{Final, accepted, refusal}

@@ -6,8 +6,8 @@ use Prim.Native.Nat.{ℕ}
 use lib.Dec.{ltb}
 use lib.ListN.{length, take}
 use Rattle.text.specs.Wrote.{Wrote}
-use Rattle.element_frames.specs.Frame.{refusalFrame}
-use Rattle.element_frames.specs.Hex.{lineOf}
+use Rattle.frame_bytes.specs.Frame.{refusalFrame}
+use Rattle.frame_bytes.specs.Hex.{lineOf}
 use Rattle.elements.specs.Given.{Given, bytes, refused, Due, text, denied, within, fitting}
 use Rattle.frames.specs.Listing.{dueOf}
 

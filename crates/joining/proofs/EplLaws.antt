@@ -3,8 +3,8 @@
 use mathlib.Core.Path.{refl}
 use mathlib.Core.List.{List, [], _∷_}
 use Prim.Native.Nat.{ℕ}
-use Rattle.element_frames.specs.Frame.{frameOf}
-use Rattle.element_frames.proofs.FrameLaws.{frame-local}
+use Rattle.frame_bytes.specs.Frame.{frameOf}
+use Rattle.frame_bytes.proofs.FrameLaws.{frame-local}
 use Rattle.graphics.specs.Block.{opensGw, gwSpan}
 use Rattle.spelling.specs.Command.{commandOf}
 use Rattle.commands.specs.Line.{readLine}

@@ -11,7 +11,7 @@ use borrow.Author.Tests.{lt-ltb, le-ltb, ltb-true, ltb-false}
 use Rattle.text.proofs.BoolLaws.{test}
 use Rattle.elements.specs.Given.{longest, Due, text, denied, fitting, needed, stored}
 use Rattle.elements.specs.Walk.{fresh}
-use Rattle.element_frames.specs.Frame.{frameOf}
+use Rattle.frame_bytes.specs.Frame.{frameOf}
 use Rattle.walk_theory.specs.Reach.{Final, accepted, refusal}
 use Rattle.walk_theory.specs.Trace.{listed, refusal-of, ending, labelsIn}
 use Rattle.walk_theory.specs.Strict.{Ends}

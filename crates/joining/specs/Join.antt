@@ -5,7 +5,7 @@ use mathlib.Core.List.{List, [], _∷_}
 use Prim.Native.Nat.{ℕ}
 use lib.ListN.{length}
 use Rattle.elements.specs.Given.{Given, bytes, refused, Due, fitting, needed, stored}
-use Rattle.element_frames.specs.Frame.{frameOf}
+use Rattle.frame_bytes.specs.Frame.{frameOf}
 use Rattle.walk_theory.specs.Trace.{Outcome, listed, refusal-of}
 use Rattle.walk_theory.specs.Join.{joined, joinOf}
 use Rattle.grammar.specs.Units.{EplUnit, line}

@@ -16,7 +16,7 @@ use Rattle.walk_theory.specs.Step.{handing, answer, step}
 use Rattle.walk_theory.specs.Trace.{trace}
 use Rattle.grammar.specs.Found.{first}
 use Rattle.grammar.specs.WellFormed.{wellFormed}
-use Rattle.element_frames.specs.Frame.{be32, head, extentBytes, rowBytes, fieldBytes, frameOf, labelFrame}
+use Rattle.frame_bytes.specs.Frame.{be32, head, extentBytes, rowBytes, fieldBytes, frameOf, labelFrame}
 use Rattle.laddertick.specs.Table.{Holds}
 use Rattle.laddertick.specs.Changed.{table}
 

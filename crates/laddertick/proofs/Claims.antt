@@ -14,8 +14,8 @@ use Rattle.elements.specs.declared.refusal.Refusal.{Refusal}
 use Rattle.elements.specs.declared.refusal.Refusal.the-variants.{TextFields, BarcodeFields, Barcode2dFields, LineFields, DiagonalFields, BoxFields, BarcodeType, Barcode2dType, QrData, GraphicFields, GraphicNegative, GraphicTruncated, OutOfRange, InputTooLong, OutputTooShort, StateOutside, NoValue, OutsideProfile, SizeOutside, TooManyLabels, NoSuchLabel, RectangleTurned, NotReadable, GraphicInLabel, JoinedTooLong}
 use Rattle.elements.specs.Refusals.{numberOf}
 use Rattle.elements.specs.Walk.{fresh}
-use Rattle.element_frames.specs.Frame.{be32, head, frameOf}
-use Rattle.element_frames.proofs.FrameLaws.{frame-local}
+use Rattle.frame_bytes.specs.Frame.{be32, head, frameOf}
+use Rattle.frame_bytes.proofs.FrameLaws.{frame-local}
 use Rattle.elements.specs.Given.{longest}
 use Rattle.walk_theory.specs.Division.{Division}
 use Rattle.walk_theory.specs.Labels as labels-of

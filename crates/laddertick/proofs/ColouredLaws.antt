@@ -24,7 +24,7 @@ use Rattle.parameters.specs.Position.{placed, yields}
 use Rattle.draws.specs.Draw.{lineFields, lineElement, lineReading}
 use Rattle.spelling.specs.Command.{isReference, isPrint, commandOf}
 use Rattle.commands.specs.Line.{readLine}
-use Rattle.element_frames.specs.Frame.{be32, head, extentBytes, fieldBytes, frameOf}
+use Rattle.frame_bytes.specs.Frame.{be32, head, extentBytes, fieldBytes, frameOf}
 use Rattle.laddertick.specs.Coloured.{Coloured, alike, drawn}
 
 coloured-cond : (b : Bool) (k : Refusal) (x y : LineReading) → Coloured 2 x y → Coloured 2 (cond b (reading.Refused k) x) (cond b (reading.Refused k) y)

@@ -21,7 +21,7 @@ use Rattle.elements.specs.declared.walk_state.WalkState.{WalkState}
 use Rattle.elements.specs.Refusals.{numberOf}
 use Rattle.elements.specs.Spans.{In}
 use Rattle.elements.specs.Walk.{fresh}
-use Rattle.element_frames.specs.Frame.{frameOf}
+use Rattle.frame_bytes.specs.Frame.{frameOf}
 use Rattle.elements.specs.Given.{Due, text, denied, Fills, givenOf, longest}
 use Rattle.walk_theory.specs.Step.{State, handing, answer, step}
 use Rattle.walk_theory.specs.Step as theory

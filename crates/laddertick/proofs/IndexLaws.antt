@@ -21,7 +21,7 @@ use Rattle.elements.specs.declared.walk_state.WalkState.{WalkState}
 use Rattle.elements.specs.Given.{Due, text, denied, Fills, givenOf, longest}
 use Rattle.elements.specs.Walk.{fresh}
 use Rattle.elements.proofs.GivenLaws.{fills-kept}
-use Rattle.element_frames.specs.Frame.{frameOf}
+use Rattle.frame_bytes.specs.Frame.{frameOf}
 use Rattle.walk_theory.specs.Index as theory
 use Rattle.walk_theory.specs.Index.{Along, filled, unfilled, opens, denies, into, indexingBy, entries, firstIn, EntryOf, Indexed}
 use Rattle.walk_theory.specs.Reach.{Final, accepted, refusal}

@@ -15,7 +15,7 @@ use Rattle.spelling.specs.Reference.{referenceOf}
 use Rattle.commands.specs.Line.{paramsOf, quotedReading, readLine}
 use Rattle.walk_theory.specs.Step.{handing, answer, step}
 use Rattle.walk_theory.specs.Trace.{trace}
-use Rattle.element_frames.specs.Frame.{be32, head, extentBytes, fieldBytes, frameOf, labelFrame}
+use Rattle.frame_bytes.specs.Frame.{be32, head, extentBytes, fieldBytes, frameOf, labelFrame}
 use Rattle.grammar.specs.WellFormed.{wellFormed, faultOf}
 use Rattle.grammar.specs.Found.{first}
 use Rattle.grammar.specs.Normal.{chunk, normalised}

@@ -9,7 +9,7 @@ use lib.Seq.{sets-eq}
 use Rattle.elements.specs.declared.walk_state.WalkState.{WalkState}
 use Rattle.elements.specs.Given.{text, denied, longest}
 use Rattle.elements.specs.Walk.{fresh}
-use Rattle.element_frames.specs.Frame.{frameOf}
+use Rattle.frame_bytes.specs.Frame.{frameOf}
 use Rattle.walk_theory.specs.Reach as theory
 use Rattle.walk_theory.specs.Reach.{Final, then, Reach}
 use Rattle.walk_theory.specs.Trace.{ending}

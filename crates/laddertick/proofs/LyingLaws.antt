@@ -15,7 +15,7 @@ use Rattle.elements.specs.declared.LabelElement.{LabelElement}
 use Rattle.elements.specs.declared.LabelPosition.{LabelPosition}
 use Rattle.elements.specs.declared.refusal.Refusal.{Refusal}
 use Rattle.elements.proofs.GivenLaws.{bytes≢refused, fills-kept, text-written, text-short, refusal-due, within-long, within-short}
-use Rattle.element_frames.specs.Frame.{frameOf}
+use Rattle.frame_bytes.specs.Frame.{frameOf}
 use Rattle.walk_theory.specs.Index.{opens, denies, firstIn, openingFound, opening}
 use Rattle.walk_theory.specs.Labels.{Label}
 use Rattle.walk_theory.specs.Step as steps-of

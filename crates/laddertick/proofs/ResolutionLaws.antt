@@ -5,7 +5,7 @@ use mathlib.Core.List.{List, [], _∷_}
 use Prim.Native.Nat.{ℕ, _<_}
 use lib.ListN.{length, take, getD}
 use borrow.Author.Tests.{lt-ltb}
-use Rattle.element_frames.specs.Frame.{frameOf}
+use Rattle.frame_bytes.specs.Frame.{frameOf}
 use Rattle.elements.specs.Given.{longest}
 use Rattle.walk_theory.specs.Index as theory
 use Rattle.frames.specs.Listing.{FramedLabel}

@@ -6,7 +6,7 @@ use Prim.Native.Nat.{ℕ}
 use native.Mathlib.Omega.{arith}
 use Rattle.elements.specs.declared.LabelPosition.{LabelPosition}
 use Rattle.elements.specs.declared.walk_state.WalkState.{WalkState}
-use Rattle.element_frames.specs.Frame.{frameOf}
+use Rattle.frame_bytes.specs.Frame.{frameOf}
 use Rattle.walk_theory.specs.Step.{State}
 use Rattle.walk_theory.specs.Reach as theory
 use Rattle.walk_theory.specs.Reach.{Final, Then, then, Reach}

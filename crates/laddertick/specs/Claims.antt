@@ -25,7 +25,7 @@ use Rattle.elements.specs.declared.walk_state.WalkState.{WalkState}
 use Rattle.elements.specs.Refusals.{numberOf}
 use Rattle.elements.specs.Spans.{In}
 use Rattle.elements.specs.Walk.{fresh}
-use Rattle.element_frames.specs.Frame.{head, frameOf}
+use Rattle.frame_bytes.specs.Frame.{head, frameOf}
 use Rattle.parameters.specs.declared.reading.LineReading.the-variants as reading
 use Rattle.spelling.specs.declared.command.Command.{Command}
 use Rattle.spelling.specs.Command.{commandOf}

@@ -1,7 +1,7 @@
 // The listing program: standard input to frames, one a line.
 ghost use Rattle.frames.specs.Listing.{dueOf};
 ghost use Rattle.frames.specs.Printing.{Shows};
-use element_frames::data::part;
+use frame_bytes::data::part;
 use elements::DataSpan;
 use frames::printing::PROGRAM_MAX;
 use frames::printing::print_listing;

@@ -4,7 +4,7 @@ ghost use Rattle.text.specs.Wrote.{Put};
 ghost use Rattle.format.specs.Normalise.{dueOf};
 ghost use Rattle.frames.specs.Printing.{Shows};
 ghost use Rattle.normalise.specs.Printed.{printedOf};
-use element_frames::data::part;
+use frame_bytes::data::part;
 use elements::DataSpan;
 use elements::refusal::Refusal;
 use frames::printing::PROGRAM_MAX;

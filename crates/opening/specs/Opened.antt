@@ -6,7 +6,7 @@ use mathlib.Core.List.{List, []}
 use Prim.Native.Nat.{ℕ}
 use lib.Dec.{ltb}
 use lib.ListN.{length, take}
-use Rattle.element_frames.specs.Frame.{frameOf}
+use Rattle.frame_bytes.specs.Frame.{frameOf}
 use Rattle.elements.specs.Given.{Due, text, denied, longest}
 use Rattle.elements.specs.Refusals.{numberOf}
 use Rattle.elements.specs.declared.LabelElement.{LabelElement}

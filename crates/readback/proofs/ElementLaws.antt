@@ -19,7 +19,7 @@ use Rattle.elements.specs.declared.LabelElement.the-variants as element
 use Rattle.elements.specs.Given.{longest}
 use Rattle.elements.specs.Plain.{extent, bars, plainOf}
 use Rattle.elements.specs.Spans.{In}
-use Rattle.element_frames.specs.Frame.{part}
+use Rattle.frame_bytes.specs.Frame.{part}
 use Rattle.graphics.specs.Block.{opensGw}
 use Rattle.spelling.specs.Command.{isReference, isPrint, commandOf}
 use Rattle.spelling.specs.declared.command.DataCommand.the-variants.{Text}

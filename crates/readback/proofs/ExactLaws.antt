@@ -27,8 +27,8 @@ use Rattle.elements.specs.declared.LabelElement.{LabelElement}
 use Rattle.elements.specs.declared.LabelElement.the-variants as element
 use Rattle.elements.specs.declared.LabelPosition.{LabelPosition}
 use Rattle.elements.specs.Spans.{onSpan, spans, AllIn, In, spansIn}
-use Rattle.element_frames.specs.Frame.{part}
-use Rattle.element_frames.proofs.FramePartLaws.{part-local}
+use Rattle.frame_bytes.specs.Frame.{part}
+use Rattle.frame_bytes.proofs.FramePartLaws.{part-local}
 use Rattle.parameters.specs.declared.reading.LineReading.the-variants as reading
 use Rattle.spelling.specs.declared.command.Command.{Command}
 use Rattle.spelling.specs.declared.command.Command.the-variants.{Clear, Reference, Data, Line, Diagonal, Box, Print, Other}

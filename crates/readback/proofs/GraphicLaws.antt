@@ -20,7 +20,7 @@ use Rattle.graphics.specs.Block.{inField}
 use Rattle.walk_theory.specs.Language.{yield}
 use Rattle.grammar.specs.Units.{Header, block, closed, gw, All, all-nil, all-cons, Block, bytes}
 use Rattle.grammar.specs.Epl.{origin, acts}
-use Rattle.element_frames.specs.Frame.{part}
+use Rattle.frame_bytes.specs.Frame.{part}
 use Rattle.decimals.specs.Decimal.{decimal}
 use Rattle.decimals.specs.Joined.{Without}
 use Rattle.decimals.proofs.ReadLaws.{field-decimal, decimal-without}

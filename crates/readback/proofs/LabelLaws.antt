@@ -19,7 +19,7 @@ use Rattle.elements.specs.declared.LabelElement.the-variants as element
 use Rattle.elements.specs.declared.PrintCounts.{PrintCounts}
 use Rattle.elements.specs.Given.{longest}
 use Rattle.elements.specs.Spans.{In, shifted}
-use Rattle.element_frames.proofs.FramePartLaws.{part-local}
+use Rattle.frame_bytes.proofs.FramePartLaws.{part-local}
 use Rattle.graphics.specs.Block.{opensGw}
 use Rattle.spelling.specs.declared.command.Command.the-variants.{Print}
 use Rattle.spelling.specs.Command.{isReference, isPrint, commandOf}

@@ -39,7 +39,7 @@ use Rattle.decimals.specs.Decimal.{decimal}
 use Rattle.decimals.specs.Joined.{Without, closed}
 use Rattle.decimals.proofs.JoinedLaws.{without-append, without-cons}
 use Rattle.decimals.proofs.ReadLaws.{Ends, ends-append}
-use Rattle.element_frames.specs.Frame.{part}
+use Rattle.frame_bytes.specs.Frame.{part}
 use Rattle.spellings.specs.Draws.{numbers, lineLetter, isLine, byLine, byCorners, byCornersUp, spellBox, spellDiagonal}
 use Rattle.spellings.specs.Quoted.{quotedLine, spanIn}
 use Rattle.spellings.specs.Codes.{barParams}

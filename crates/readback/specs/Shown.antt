@@ -4,7 +4,7 @@ use Prim.Native.Nat.{ℕ}
 use Rattle.elements.specs.declared.DataSpan.{DataSpan}
 use Rattle.elements.specs.declared.LabelElement.{LabelElement}
 use Rattle.elements.specs.Spans.{onSpan, spans}
-use Rattle.element_frames.specs.Frame.{part}
+use Rattle.frame_bytes.specs.Frame.{part}
 
 pub record Shown : Type 0 where
   -- without its data

@@ -4,7 +4,7 @@
 ghost use mathlib.Core.Path.{_≡_};
 ghost use Prim.Native.Nat.{_<_};
 ghost use lib.ListN.{length};
-use element_frames::data::part;
+use frame_bytes::data::part;
 use elements::DataSpan;
 use frames::printing::print_listing;
 

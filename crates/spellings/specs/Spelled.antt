@@ -15,7 +15,7 @@ use Rattle.elements.specs.declared.plain.Data.the-variants.{NoData, Payload, De
 use Rattle.elements.specs.declared.plain.Fields.{Fields}
 use Rattle.elements.specs.declared.plain.Fields.the-variants as fields
 use Rattle.elements.specs.Plain.{plainOf}
-use Rattle.element_frames.specs.Frame.{part}
+use Rattle.frame_bytes.specs.Frame.{part}
 use Rattle.barcodes.specs.declared.barcode.Symbology.{Symbology}
 use Rattle.barcodes.specs.declared.barcode.Symbology.the-variants.{Code128, Interleaved, Code39, Ean13, Ean8}
 use Rattle.barcodes.specs.declared.barcode.Symbology.the-variants.{UpcA, UpcE}

@@ -18,7 +18,7 @@ use Rattle.elements.specs.declared.plain.Data.the-variants.{NoData, Payload, De
 use Rattle.elements.specs.declared.plain.Fields.{Fields}
 use Rattle.elements.specs.declared.plain.Fields.the-variants as fields
 use Rattle.elements.specs.Plain.{plainOf}
-use Rattle.element_frames.specs.Frame.{part}
+use Rattle.frame_bytes.specs.Frame.{part}
 use Rattle.barcodes_2d.specs.Barcode2d.{isMode}
 use Rattle.spellings.specs.Draws.{fineBox, fineDiagonal}
 use Rattle.spellings.specs.Codes2d.{fineAztec, fineDatamatrix, finePdf417, fineQr}

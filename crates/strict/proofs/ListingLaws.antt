@@ -7,7 +7,7 @@ use Prim.Native.Nat.{ℕ, _<_}
 use native.Mathlib.Omega.{arith}
 use Rattle.elements.specs.Given.{denied}
 use Rattle.elements.specs.Walk.{fresh}
-use Rattle.element_frames.specs.Frame.{frameOf}
+use Rattle.frame_bytes.specs.Frame.{frameOf}
 use Rattle.walk_theory.specs.Reach.{Final, accepted, refusal}
 use Rattle.walk_theory.specs.Trace.{ending, trace, final, labelsIn}
 use Rattle.walk_theory.specs.Strict.{Along}

@@ -12,8 +12,8 @@ use lib.ListN.{length}
 use borrow.Author.Tests.{eq-eqb, ne-eqb}
 use Rattle.elements.specs.Given.{longest}
 use Rattle.elements.specs.Walk.{fresh}
-use Rattle.element_frames.specs.Frame.{frameOf}
-use Rattle.element_frames.proofs.FrameLaws.{frame-local}
+use Rattle.frame_bytes.specs.Frame.{frameOf}
+use Rattle.frame_bytes.proofs.FrameLaws.{frame-local}
 use Rattle.walk_theory.specs.Labels.{Label, Divides}
 use Rattle.walk_theory.specs.Reach.{Final, accepted, refusal, answered}
 use Rattle.walk_theory.specs.Trace.{listed, refusal-of, ending, trace, final, labelsIn}

@@ -3,7 +3,7 @@ use mathlib.Core.List.{List}
 use Prim.Native.Nat.{ℕ}
 use Rattle.elements.specs.Given.{Due}
 use Rattle.elements.specs.Walk.{fresh}
-use Rattle.element_frames.specs.Frame.{frameOf}
+use Rattle.frame_bytes.specs.Frame.{frameOf}
 use Rattle.walk_theory.specs.Trace.{outcome}
 use Rattle.walk.specs.Steps.{stateOf}
 use Rattle.frames.specs.Listing.{FramedOutcome, listingDue}

@@ -19,7 +19,7 @@ use Rattle.elements.specs.declared.LineColor.{LineColor}
 use Rattle.elements.specs.declared.LineColor.the-variants.{Black, White, Xor}
 use Rattle.elements.specs.declared.QrErrorCorrectionLevel.{QrErrorCorrectionLevel}
 use Rattle.elements.specs.declared.QrErrorCorrectionLevel.the-variants.{H, Q, M, L}
-use Rattle.element_frames.specs.Frame as frame
+use Rattle.frame_bytes.specs.Frame as frame
 use Rattle.flat.specs.declared.answer.Element.{Element}
 use Rattle.flat.specs.Flat.{flatElement}
 use Rattle.unflat.specs.Unflat.{isOne, orientationOf, colourOf, modeOf, levelOf, elementOf, Stands}

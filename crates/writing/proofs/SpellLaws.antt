@@ -16,8 +16,8 @@ use Rattle.elements.specs.declared.LabelElement.{LabelElement}
 use Rattle.elements.specs.declared.LabelElement.the-variants as element
 use Rattle.elements.specs.declared.TextField.{TextField}
 use Rattle.elements.specs.declared.Barcode128WithData.{Barcode128WithData}
-use Rattle.element_frames.specs.Frame.{part}
-use Rattle.element_frames.specs.Frame as frame
+use Rattle.frame_bytes.specs.Frame.{part}
+use Rattle.frame_bytes.specs.Frame as frame
 use Rattle.flat.specs.Flat.{flatElement}
 use Rattle.decimals.specs.Decimal.{digits, decimal}
 use Rattle.spellings.specs.Quoted.{quotedLine, numbersThen}

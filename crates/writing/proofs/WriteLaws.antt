@@ -15,7 +15,7 @@ use Rattle.text.specs.Wrote.{Put}
 use Rattle.elements.specs.declared.DataSpan.{DataSpan}
 use Rattle.flat.specs.declared.answer.Element.{Element}
 use Rattle.elements.specs.Plain.{plainOf}
-use Rattle.element_frames.specs.Frame.{part}
+use Rattle.frame_bytes.specs.Frame.{part}
 use Rattle.flat.specs.Flat.{flatElement}
 use Rattle.spellings.specs.Draws.{isLine}
 use Rattle.spellings.specs.Due.{elementDue}

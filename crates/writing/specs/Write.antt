@@ -8,7 +8,7 @@ use lib.IntN.{negsuc}
 use lib.ListN.{length}
 use Rattle.elements.specs.declared.DataSpan.{DataSpan}
 use Rattle.elements.specs.Given.{Due, text, denied, within, longest}
-use Rattle.element_frames.specs.Frame.{part}
+use Rattle.frame_bytes.specs.Frame.{part}
 use Rattle.flat.specs.declared.answer.Element.{Element}
 use Rattle.writing.specs.Fill.{fill}
 use Rattle.writing.specs.Fine.{isNumber, isLineAt, fineNumbers, fineBytes}

@@ -6,7 +6,7 @@ use native.Mathlib.Omega.{arith}
 use lib.ListN.{length, drop, length-take, length-drop}
 use lib.Seq.{sets}
 use Rattle.text.specs.Utf8.{decode}
-use Rattle.element_frames.specs.Frame.{part}
+use Rattle.frame_bytes.specs.Frame.{part}
 use Rattle.elements.specs.Given.{text, longest}
 use Rattle.elements.proofs.GivenLaws.{within-long, within-short, fills-denied, fills-short, fills-written}
 use Rattle.decoding.specs.Decoding.{dueOf}

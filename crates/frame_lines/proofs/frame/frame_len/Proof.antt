@@ -1,7 +1,7 @@
 -- `frame_lines::frame::frame_len` meets its contract.
 -- Assumes nothing.
 use native.Mathlib.Omega.{arith}
-use Rattle.element_frames.proofs.FrameLaws.{frame-size}
+use Rattle.frame_bytes.proofs.FrameLaws.{frame-size}
 use borrow.Author.Needs.{needs}
 use Rattle.frame_lines.proofs.frame.frame_len.Statement.{statement}
 use Rattle.frame_lines.proofs.frame.frame_len.Tie as tie

@@ -1,8 +1,8 @@
 -- `frame_lines::frame::put_element` meets its contract.
 -- Assumes nothing.
 use native.Mathlib.Omega.{arith}
-use Rattle.element_frames.proofs.PutLaws.{then}
-use Rattle.element_frames.proofs.FrameLaws.{frame-size, frame-told}
+use Rattle.frame_bytes.proofs.PutLaws.{then}
+use Rattle.frame_bytes.proofs.FrameLaws.{frame-size, frame-told}
 use borrow.Author.Needs.{needs}
 use Rattle.frame_lines.proofs.frame.put_element.Statement.{statement}
 use Rattle.frame_lines.proofs.frame.put_element.Tie as tie

@@ -1,9 +1,9 @@
 -- `frame_lines::frame::put_frame` meets its contract.
 -- Assumes nothing.
 use native.Mathlib.Omega.{arith}
-use Rattle.element_frames.specs.Frame.{frameOf}
-use Rattle.element_frames.proofs.HexLaws.{length-line}
-use Rattle.element_frames.proofs.PutLaws.{line}
+use Rattle.frame_bytes.specs.Frame.{frameOf}
+use Rattle.frame_bytes.proofs.HexLaws.{length-line}
+use Rattle.frame_bytes.proofs.PutLaws.{line}
 use borrow.Author.Needs.{needs}
 use Rattle.frame_lines.proofs.frame.put_frame.Statement.{statement}
 use Rattle.frame_lines.proofs.frame.put_frame.Tie as tie

@@ -1,8 +1,8 @@
 -- `frame_lines::frame::put_label_frame` meets its contract.
 -- Assumes nothing.
 use Rattle.numbers.proofs.IntLaws.{back32}
-use Rattle.element_frames.specs.Frame.{be32, labelFrame}
-use Rattle.element_frames.proofs.PutLaws.{then, line}
+use Rattle.frame_bytes.specs.Frame.{be32, labelFrame}
+use Rattle.frame_bytes.proofs.PutLaws.{then, line}
 use borrow.Author.Needs.{needs}
 use Rattle.frame_lines.proofs.frame.put_label_frame.Statement.{statement}
 use Rattle.frame_lines.proofs.frame.put_label_frame.Tie as tie

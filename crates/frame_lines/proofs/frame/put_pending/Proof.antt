@@ -1,6 +1,6 @@
 -- `frame_lines::frame::put_pending` meets its contract.
 -- Assumes nothing.
-use Rattle.element_frames.proofs.PutLaws.{then, line}
+use Rattle.frame_bytes.proofs.PutLaws.{then, line}
 use borrow.Author.Needs.{needs}
 use Rattle.frame_lines.proofs.frame.put_pending.Statement.{statement}
 use Rattle.frame_lines.proofs.frame.put_pending.Tie as tie

@@ -1,6 +1,6 @@
 -- `frame_lines::frame::put_refusal` meets its contract.
 -- Assumes nothing.
-use Rattle.element_frames.proofs.PutLaws.{then, line}
+use Rattle.frame_bytes.proofs.PutLaws.{then, line}
 use borrow.Author.Needs.{needs}
 use Rattle.frame_lines.proofs.frame.put_refusal.Statement.{statement}
 use Rattle.frame_lines.proofs.frame.put_refusal.Tie as tie

@@ -2,7 +2,7 @@
 -- Assumes nothing.
 use mathlib.Core.Path.{sym}
 use native.Mathlib.Omega.{arith}
-use Rattle.element_frames.proofs.FrameLaws.{fields-size}
+use Rattle.frame_bytes.proofs.FrameLaws.{fields-size}
 use borrow.Author.Needs.{needs}
 use Rattle.frame_lines.proofs.kinds.fields_len.Statement.{statement}
 use Rattle.frame_lines.proofs.kinds.fields_len.Tie as tie

@@ -1,7 +1,7 @@
 -- `frame_lines::kinds::put_128` meets its contract.
 -- Assumes nothing.
-use Rattle.element_frames.specs.Frame.{fieldBytes}
-use Rattle.element_frames.proofs.PutLaws.{then}
+use Rattle.frame_bytes.specs.Frame.{fieldBytes}
+use Rattle.frame_bytes.proofs.PutLaws.{then}
 use borrow.Author.Needs.{needs}
 use Rattle.frame_lines.proofs.kinds.put_128.Statement.{statement}
 use Rattle.frame_lines.proofs.kinds.put_128.Tie as tie

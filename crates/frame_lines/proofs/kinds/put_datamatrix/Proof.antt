@@ -1,8 +1,8 @@
 -- `frame_lines::kinds::put_datamatrix` meets its contract.
 -- Assumes nothing.
 use Rattle.numbers.proofs.IntLaws.{back32}
-use Rattle.element_frames.specs.Frame.{fieldBytes}
-use Rattle.element_frames.proofs.PutLaws.{then}
+use Rattle.frame_bytes.specs.Frame.{fieldBytes}
+use Rattle.frame_bytes.proofs.PutLaws.{then}
 use borrow.Author.Needs.{needs}
 use Rattle.frame_lines.proofs.kinds.put_datamatrix.Statement.{statement}
 use Rattle.frame_lines.proofs.kinds.put_datamatrix.Tie as tie

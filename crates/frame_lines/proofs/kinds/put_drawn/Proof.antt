@@ -1,8 +1,8 @@
 -- `frame_lines::kinds::put_drawn` meets its contract.
 -- Assumes nothing.
 use Rattle.numbers.proofs.IntLaws.{back32}
-use Rattle.element_frames.specs.Frame.{extentBytes}
-use Rattle.element_frames.proofs.PutLaws.{then}
+use Rattle.frame_bytes.specs.Frame.{extentBytes}
+use Rattle.frame_bytes.proofs.PutLaws.{then}
 use borrow.Author.Needs.{needs}
 use Rattle.frame_lines.proofs.kinds.put_drawn.Statement.{statement}
 use Rattle.frame_lines.proofs.kinds.put_drawn.Tie as tie

@@ -2,8 +2,8 @@
 -- Assumes nothing.
 use native.Mathlib.Omega.{arith}
 use Rattle.numbers.proofs.IntLaws.{back32}
-use Rattle.element_frames.specs.Frame.{fieldBytes}
-use Rattle.element_frames.proofs.FrameLaws.{fields-size, fields-told}
+use Rattle.frame_bytes.specs.Frame.{fieldBytes}
+use Rattle.frame_bytes.proofs.FrameLaws.{fields-size, fields-told}
 use borrow.Author.Needs.{needs}
 use Rattle.frame_lines.proofs.kinds.put_fields.Statement.{statement}
 use Rattle.frame_lines.proofs.kinds.put_fields.Tie as tie

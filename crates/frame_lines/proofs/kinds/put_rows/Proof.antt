@@ -1,8 +1,8 @@
 -- `frame_lines::kinds::put_rows` meets its contract.
 -- Assumes nothing.
 use Rattle.numbers.proofs.IntLaws.{back32}
-use Rattle.element_frames.specs.Frame.{rowBytes}
-use Rattle.element_frames.proofs.PutLaws.{then}
+use Rattle.frame_bytes.specs.Frame.{rowBytes}
+use Rattle.frame_bytes.proofs.PutLaws.{then}
 use borrow.Author.Needs.{needs}
 use Rattle.frame_lines.proofs.kinds.put_rows.Statement.{statement}
 use Rattle.frame_lines.proofs.kinds.put_rows.Tie as tie

@@ -10,7 +10,7 @@ use Rattle.elements.specs.declared.filled.Filled.the-variants.{Bytes, Refused}
 use Rattle.elements.specs.Given.{needed, givenOf, bytes, text}
 use Rattle.elements.proofs.GivenLaws.{needed-denied, fills-denied, fills-short, fills-written, bytes≢refused, bytes-inj}
 use Rattle.frames.specs.Listing.{dueOf, FramedLabel, listingOf, listingDue, pendingAt, textFrom}
-use Rattle.element_frames.specs.Frame.{frameOf}
+use Rattle.frame_bytes.specs.Frame.{frameOf}
 use Rattle.walk_theory.specs.Reach.{Final, accepted, refusal}
 use Rattle.walk_theory.specs.Trace.{ending, final, labelsIn}
 use Rattle.grammar.specs.Epl.{epl}

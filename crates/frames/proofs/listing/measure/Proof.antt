@@ -14,7 +14,7 @@ use Rattle.walk.specs.declared.answer.Answer.the-variants.{Element, Clear, Prin
 use Rattle.elements.specs.declared.walk_state.WalkState.{WalkState}
 use Rattle.walk.proofs.WalkLaws.{onStep, Moved, begins, moved-by}
 use Rattle.frames.proofs.ListingLaws.{length-lines, length-label, length-pending-le, frame-len-le, frame-len-is}
-use Rattle.element_frames.specs.Frame.{frameOf}
+use Rattle.frame_bytes.specs.Frame.{frameOf}
 use Rattle.walk_theory.specs.Reach.{Final, accepted, refusal}
 use Rattle.elements.specs.Given.{Given, bytes, refused, needed}
 use Rattle.walk_theory.specs.Trace.{stops, refuses, yields, clears, prints, ending, final, labelsIn}

@@ -8,8 +8,8 @@ use lib.ListN.{length}
 use Rattle.text.proofs.WroteTowardLaws.{Toward, begin, room, put, finish}
 use Rattle.walk_theory.specs.Trace.{lead}
 use Rattle.grammar.specs.Epl.{epl}
-use Rattle.element_frames.specs.Frame.{frameOf}
-use Rattle.element_frames.specs.Hex.{lineOf}
+use Rattle.frame_bytes.specs.Frame.{frameOf}
+use Rattle.frame_bytes.specs.Hex.{lineOf}
 use Rattle.walk.specs.declared.answer.Answer.{Answer}
 use Rattle.walk.specs.declared.answer.Answer.the-variants.{Element}
 use Rattle.frames.specs.Listing.{linesOf, frontFrames}

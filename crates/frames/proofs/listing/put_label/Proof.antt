@@ -4,8 +4,8 @@ use mathlib.Core.List.{List, _++_}
 use Prim.Native.Nat.{ℕ}
 use native.Mathlib.Omega.{arith}
 use lib.ListN.{length-append}
-use Rattle.element_frames.specs.Frame.{labelFrame}
-use Rattle.element_frames.specs.Hex.{lineOf}
+use Rattle.frame_bytes.specs.Frame.{labelFrame}
+use Rattle.frame_bytes.specs.Hex.{lineOf}
 use Rattle.frames.specs.Listing.{linesOf, frontFrames}
 use Rattle.frames.proofs.ListingLaws.{length-frame, length-label}
 use Rattle.text.specs.Wrote.{Put}

@@ -5,9 +5,9 @@ use mathlib.Core.List.{List}
 use Prim.Native.Nat.{ℕ, _+_, _-_, _*_, _≤_}
 use native.Mathlib.Omega.{arith}
 use lib.ListN.{length, length-append}
-use Rattle.element_frames.specs.Frame.{frameOf}
-use Rattle.element_frames.specs.Hex.{lineOf}
-use Rattle.element_frames.proofs.HexLaws.{length-line}
+use Rattle.frame_bytes.specs.Frame.{frameOf}
+use Rattle.frame_bytes.specs.Hex.{lineOf}
+use Rattle.frame_bytes.proofs.HexLaws.{length-line}
 use Rattle.walk_theory.specs.Trace.{stops, refuses, clears, prints, after, lead, trace}
 use Rattle.walk_theory.specs.Index.{firstIn}
 use Rattle.grammar.specs.Epl.{epl}

@@ -5,7 +5,7 @@ use mathlib.Core.List.{List}
 use Prim.Native.Nat.{ℕ}
 use lib.ListN.{length}
 use lib.Seq.{length-take-le}
-use Rattle.element_frames.specs.Frame.{frameOf}
+use Rattle.frame_bytes.specs.Frame.{frameOf}
 use Rattle.elements.specs.Given.{Due, Fills, givenOf}
 use Rattle.elements.proofs.GivenLaws.{fills-denied}
 use Rattle.opening.specs.Opened.{openingDue, startedOpening, entryDue}

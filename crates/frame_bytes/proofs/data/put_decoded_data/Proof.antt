@@ -1,0 +1,47 @@
+-- `frame_bytes::data::put_decoded_data` meets its contract: the decoded length, for which the room is enough, and
+-- then the text.
+-- Assumes nothing.
+use mathlib.Core.Path.{_≡_, ap}
+use mathlib.Core.List.{List}
+use Prim.Native.Nat.{ℕ}
+use native.Mathlib.Omega.{arith}
+use lib.ListN.{length}
+use Rattle.text.specs.Utf8.{decode}
+use Rattle.frame_bytes.specs.Frame.{be32, part}
+use Rattle.frame_bytes.proofs.PutLaws.{then, retold, same}
+use borrow.Author.Needs.{needs}
+use Rattle.frame_bytes.proofs.data.put_decoded_data.Statement.{statement}
+use Rattle.frame_bytes.proofs.data.put_decoded_data.Tie as tie
+
+part-requires : tie.Need-part-requires
+part-requires c κs = search needs
+
+decoded-len-requires : tie.Need-decoded-len-requires
+decoded-len-requires c κs = search needs
+
+put-u32-requires : tie.Need-put-u32-requires
+put-u32-requires c κs = search needs
+
+put-decoded-requires : tie.Need-put-decoded-requires
+put-decoded-requires c κs = omega (arith, ap (λ (l : List ℕ). length (decode l)) (c .before .before .before .before .before .before .part .ensures))
+
+same-length : tie.Need-same-length
+same-length c = search needs
+
+returns : tie.Need-returns
+returns c =
+    let t = c .before .before .before .before .before .before .before .before .before .part .ensures in
+    let a = c .before .before .before .before .before .before .before .before .before .before .before .before .args in
+    let n : c .before .before .before .before .before .before .before .before .decoded-len .result ≡ length (decode (part (a .input .now) (a .d))) = omega (arith, ap (λ (l : List ℕ). length (decode l)) t) in
+    then (retold (ap be32 n) (c .before .before .before .before .before .before .put-u32 .ensures)) (same (ap decode t) (c .before .before .put-decoded .ensures))
+
+pub put-decoded-data-spec : {M : Type 1} → statement M
+put-decoded-data-spec =
+    tie.close
+    (tie.spec
+    part-requires
+    decoded-len-requires
+    put-u32-requires
+    put-decoded-requires
+    same-length
+    returns)

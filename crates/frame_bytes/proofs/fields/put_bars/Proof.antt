@@ -1,0 +1,47 @@
+-- `frame_bytes::fields::put_bars` meets its contract.
+-- Assumes nothing.
+use Rattle.numbers.proofs.IntLaws.{back32}
+use Rattle.frame_bytes.specs.Frame.{barBytes}
+use Rattle.frame_bytes.proofs.PutLaws.{then}
+use borrow.Author.Needs.{needs}
+use Rattle.frame_bytes.proofs.fields.put_bars.Statement.{statement}
+use Rattle.frame_bytes.proofs.fields.put_bars.Tie as tie
+
+put-rotation-requires : tie.Need-put-rotation-requires
+put-rotation-requires c κs = search needs
+
+put-i32-requires : tie.Need-put-i32-requires
+put-i32-requires c κs = search needs
+
+put-i32-requires-2 : tie.Need-put-i32-requires-2
+put-i32-requires-2 c κs = search needs
+
+put-flag-requires : tie.Need-put-flag-requires
+put-flag-requires c κs = search needs
+
+same-length : tie.Need-same-length
+same-length c = search needs
+
+returns : tie.Need-returns
+unfolding barBytes
+returns c =
+    let line = c .before .before in
+    let height = line .before .before .before .before in
+    let narrow = height .before .before .before .before .before in
+    let turned = narrow .before .before .before .before .before in
+    let b = turned .before .before .before .args .b in
+    then (then (then (turned .put-rotation .ensures)
+    (rw (back32 (b .narrow) (narrow .before .struct-told .given .1 .0 .1)) at (narrow .put-i32 .ensures)))
+    (rw (back32 (b .height) (height .before .struct-told2 .given .1 .1 .0 .1)) at (height .put-i322 .ensures)))
+    (line .put-flag .ensures)
+
+pub put-bars-spec : {M : Type 1} → statement M
+put-bars-spec =
+    tie.close
+    (tie.spec
+    put-rotation-requires
+    put-i32-requires
+    put-i32-requires-2
+    put-flag-requires
+    same-length
+    returns)

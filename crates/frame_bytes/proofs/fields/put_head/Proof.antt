@@ -1,0 +1,34 @@
+-- `frame_bytes::fields::put_head` meets its contract.
+-- Assumes nothing.
+use Rattle.numbers.proofs.IntLaws.{back32}
+use Rattle.frame_bytes.specs.Frame.{head}
+use Rattle.frame_bytes.proofs.PutLaws.{then}
+use borrow.Author.Needs.{needs}
+use Rattle.frame_bytes.proofs.fields.put_head.Statement.{statement}
+use Rattle.frame_bytes.proofs.fields.put_head.Tie as tie
+
+put-byte-requires : tie.Need-put-byte-requires
+put-byte-requires c κs = search needs
+
+put-i32-requires : tie.Need-put-i32-requires
+put-i32-requires c κs = search needs
+
+put-i32-requires-2 : tie.Need-put-i32-requires-2
+put-i32-requires-2 c κs = search needs
+
+same-length : tie.Need-same-length
+same-length c = search needs
+
+returns : tie.Need-returns
+unfolding head
+returns c =
+    let y = c .before .before in
+    let x = y .before .before .before .before .before in
+    let k = x .before .before .before .before .before in
+    let p = k .before .before .before .args .p in
+    then (then (k .put-byte .ensures) (rw (back32 (p .x) (x .before .struct-told .given .0 .1)) at (x .put-i32 .ensures)))
+    (rw (back32 (p .y) (y .before .struct-told2 .given .1 .0 .1)) at (y .put-i322 .ensures))
+
+pub put-head-spec : {M : Type 1} → statement M
+put-head-spec =
+    tie.close (tie.spec put-byte-requires put-i32-requires put-i32-requires-2 same-length returns)
