@@ -6,7 +6,7 @@ ghost use Rattle.frames.specs.Printing.{Prints, printedOf};
 use crate::listing::list;
 use elements::filled::Filled;
 use elements::refusal::Refusal;
-use frame_lines::frame::put_refusal;
+use frame_digits::frame::put_refusal;
 
 // The longest input of a program.
 pub const PROGRAM_MAX: usize = 65536;

@@ -6,7 +6,7 @@ use crate::start::start_of;
 use elements::filled::Filled;
 use elements::refusal::Refusal;
 use elements::walk_state::WalkState;
-use frame_lines::frame::frame_len;
+use frame_digits::frame::frame_len;
 use frames::listing::put_label;
 use index::entry::LabelEntry;
 use index::entry::entry_or;

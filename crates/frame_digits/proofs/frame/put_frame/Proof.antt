@@ -1,0 +1,30 @@
+-- `frame_digits::frame::put_frame` meets its contract.
+-- Assumes nothing.
+use native.Mathlib.Omega.{arith}
+use Rattle.frame_bytes.specs.Frame.{frameOf}
+use Rattle.frame_bytes.proofs.HexLaws.{length-line}
+use Rattle.frame_bytes.proofs.PutLaws.{line}
+use borrow.Author.Needs.{needs}
+use Rattle.frame_digits.proofs.frame.put_frame.Statement.{statement}
+use Rattle.frame_digits.proofs.frame.put_frame.Tie as tie
+
+put-element-requires : tie.Need-put-element-requires
+put-element-requires c κs = let a = c .before .before .before .args in omega (arith, length-line (frameOf (a .input .now) (a .e)))
+
+put-lf-requires : tie.Need-put-lf-requires
+put-lf-requires c κs = let a = c .before .before .before .before .before .before .before .args in omega (arith, length-line (frameOf (a .input .now) (a .e)))
+
+same-length : tie.Need-same-length
+same-length c = search needs
+
+returns : tie.Need-returns
+returns c = line (c .before .before .before .before .before .before .put-element .ensures) (c .before .before .put-lf .ensures)
+
+pub put-frame-spec : {M : Type 1} → statement M
+put-frame-spec =
+    tie.close
+    (tie.spec
+    put-element-requires
+    put-lf-requires
+    same-length
+    returns)

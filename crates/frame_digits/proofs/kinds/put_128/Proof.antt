@@ -1,0 +1,31 @@
+-- `frame_digits::kinds::put_128` meets its contract.
+-- Assumes nothing.
+use Rattle.frame_bytes.specs.Frame.{fieldBytes}
+use Rattle.frame_bytes.proofs.PutLaws.{then}
+use borrow.Author.Needs.{needs}
+use Rattle.frame_digits.proofs.kinds.put_128.Statement.{statement}
+use Rattle.frame_digits.proofs.kinds.put_128.Tie as tie
+
+put-bars-requires : tie.Need-put-bars-requires
+put-bars-requires c κs = search needs
+
+mode-requires : tie.Need-mode-requires
+mode-requires c κs = search needs
+
+put-byte-requires : tie.Need-put-byte-requires
+put-byte-requires c κs = search needs
+
+same-length : tie.Need-same-length
+same-length c = search needs
+
+returns : tie.Need-returns
+unfolding fieldBytes
+returns c =
+    let by = c .before .before in
+    let bars = by .before .before .before .before .before in
+    then (bars .put-bars .ensures)
+    (rw (by .before .mode .ensures) at (by .put-byte .ensures))
+
+pub put-128-spec : {M : Type 1} → statement M
+put-128-spec =
+    tie.close (tie.spec put-bars-requires mode-requires put-byte-requires same-length returns)

@@ -1,0 +1,35 @@
+-- `frame_digits::kinds::put_datamatrix` meets its contract.
+-- Assumes nothing.
+use Rattle.numbers.proofs.IntLaws.{back32}
+use Rattle.frame_bytes.specs.Frame.{fieldBytes}
+use Rattle.frame_bytes.proofs.PutLaws.{then}
+use borrow.Author.Needs.{needs}
+use Rattle.frame_digits.proofs.kinds.put_datamatrix.Statement.{statement}
+use Rattle.frame_digits.proofs.kinds.put_datamatrix.Tie as tie
+
+put-i32-requires : tie.Need-put-i32-requires
+put-i32-requires c κs = search needs
+
+put-i32-requires-2 : tie.Need-put-i32-requires-2
+put-i32-requires-2 c κs = search needs
+
+put-i32-requires-3 : tie.Need-put-i32-requires-3
+put-i32-requires-3 c κs = search needs
+
+same-length : tie.Need-same-length
+same-length c = search needs
+
+returns : tie.Need-returns
+unfolding fieldBytes
+returns c =
+    let rows = c .before .before in
+    let columns = rows .before .before .before .before .before in
+    let height = columns .before .before .before .before .before in
+    let b = height .before .before .before .before .args .b in
+    then (then (rw (back32 (b .height) (height .before .struct-told .given .0 .1)) at (height .put-i32 .ensures))
+    (rw (back32 (b .columns) (columns .before .struct-told2 .given .1 .0 .1)) at (columns .put-i322 .ensures)))
+    (rw (back32 (b .rows) (rows .before .struct-told3 .given .1 .1 .0 .1)) at (rows .put-i323 .ensures))
+
+pub put-datamatrix-spec : {M : Type 1} → statement M
+put-datamatrix-spec =
+    tie.close (tie.spec put-i32-requires put-i32-requires-2 put-i32-requires-3 same-length returns)

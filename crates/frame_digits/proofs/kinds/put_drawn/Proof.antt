@@ -1,0 +1,47 @@
+-- `frame_digits::kinds::put_drawn` meets its contract.
+-- Assumes nothing.
+use Rattle.numbers.proofs.IntLaws.{back32}
+use Rattle.frame_bytes.specs.Frame.{extentBytes}
+use Rattle.frame_bytes.proofs.PutLaws.{then}
+use borrow.Author.Needs.{needs}
+use Rattle.frame_digits.proofs.kinds.put_drawn.Statement.{statement}
+use Rattle.frame_digits.proofs.kinds.put_drawn.Tie as tie
+
+put-i32-requires : tie.Need-put-i32-requires
+put-i32-requires c κs = search needs
+
+put-i32-requires-2 : tie.Need-put-i32-requires-2
+put-i32-requires-2 c κs = search needs
+
+put-i32-requires-3 : tie.Need-put-i32-requires-3
+put-i32-requires-3 c κs = search needs
+
+put-byte-requires : tie.Need-put-byte-requires
+put-byte-requires c κs = search needs
+
+same-length : tie.Need-same-length
+same-length c = search needs
+
+returns : tie.Need-returns
+unfolding extentBytes
+returns c =
+    let mark = c .before .before in
+    let thickness = mark .before .before .before .before in
+    let height = thickness .before .before .before .before .before in
+    let width = height .before .before .before .before .before in
+    let x = width .before .before .before .before .args .x in
+    then (then (then (rw (back32 (x .width) (width .before .struct-told .given .0 .1)) at (width .put-i32 .ensures))
+    (rw (back32 (x .height) (height .before .struct-told2 .given .1 .0 .1)) at (height .put-i322 .ensures)))
+    (rw (back32 (x .thickness) (thickness .before .struct-told3 .given .1 .1 .0 .1)) at (thickness .put-i323 .ensures)))
+    (mark .put-byte .ensures)
+
+pub put-drawn-spec : {M : Type 1} → statement M
+put-drawn-spec =
+    tie.close
+    (tie.spec
+    put-i32-requires
+    put-i32-requires-2
+    put-i32-requires-3
+    put-byte-requires
+    same-length
+    returns)

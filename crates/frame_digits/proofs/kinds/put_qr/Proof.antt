@@ -1,0 +1,33 @@
+-- `frame_digits::kinds::put_qr` meets its contract.
+-- Assumes nothing.
+use Rattle.numbers.proofs.IntLaws.{back32}
+use Rattle.frame_bytes.specs.Frame.{fieldBytes}
+use Rattle.frame_bytes.proofs.PutLaws.{then}
+use borrow.Author.Needs.{needs}
+use Rattle.frame_digits.proofs.kinds.put_qr.Statement.{statement}
+use Rattle.frame_digits.proofs.kinds.put_qr.Tie as tie
+
+put-i32-requires : tie.Need-put-i32-requires
+put-i32-requires c κs = search needs
+
+level-requires : tie.Need-level-requires
+level-requires c κs = search needs
+
+put-byte-requires : tie.Need-put-byte-requires
+put-byte-requires c κs = search needs
+
+same-length : tie.Need-same-length
+same-length c = search needs
+
+returns : tie.Need-returns
+unfolding fieldBytes
+returns c =
+    let letter = c .before .before in
+    let magnification = letter .before .before .before .before .before in
+    let b = magnification .before .before .before .before .args .b in
+    then (rw (back32 (b .magnification) (magnification .before .struct-told .given .0 .1)) at (magnification .put-i32 .ensures))
+    (rw (letter .before .level .ensures) at (letter .put-byte .ensures))
+
+pub put-qr-spec : {M : Type 1} → statement M
+put-qr-spec =
+    tie.close (tie.spec put-i32-requires level-requires put-byte-requires same-length returns)

@@ -1,0 +1,47 @@
+-- `frame_digits::kinds::put_rows` meets its contract.
+-- Assumes nothing.
+use Rattle.numbers.proofs.IntLaws.{back32}
+use Rattle.frame_bytes.specs.Frame.{rowBytes}
+use Rattle.frame_bytes.proofs.PutLaws.{then}
+use borrow.Author.Needs.{needs}
+use Rattle.frame_digits.proofs.kinds.put_rows.Statement.{statement}
+use Rattle.frame_digits.proofs.kinds.put_rows.Tie as tie
+
+put-i32-requires : tie.Need-put-i32-requires
+put-i32-requires c κs = search needs
+
+put-i32-requires-2 : tie.Need-put-i32-requires-2
+put-i32-requires-2 c κs = search needs
+
+put-i32-requires-3 : tie.Need-put-i32-requires-3
+put-i32-requires-3 c κs = search needs
+
+put-i32-requires-4 : tie.Need-put-i32-requires-4
+put-i32-requires-4 c κs = search needs
+
+same-length : tie.Need-same-length
+same-length c = search needs
+
+returns : tie.Need-returns
+unfolding rowBytes
+returns c =
+    let rows = c .before .before in
+    let columns = rows .before .before .before .before .before in
+    let security = columns .before .before .before .before .before in
+    let height = security .before .before .before .before .before in
+    let b = height .before .before .before .before .args .b in
+    then (then (then (rw (back32 (b .«row_height») (height .before .struct-told .given .1 .0 .1)) at (height .put-i32 .ensures))
+    (rw (back32 (b .security) (security .before .struct-told2 .given .1 .1 .0 .1)) at (security .put-i322 .ensures)))
+    (rw (back32 (b .columns) (columns .before .struct-told3 .given .1 .1 .1 .0 .1)) at (columns .put-i323 .ensures)))
+    (rw (back32 (b .rows) (rows .before .struct-told4 .given .1 .1 .1 .1 .0 .1)) at (rows .put-i324 .ensures))
+
+pub put-rows-spec : {M : Type 1} → statement M
+put-rows-spec =
+    tie.close
+    (tie.spec
+    put-i32-requires
+    put-i32-requires-2
+    put-i32-requires-3
+    put-i32-requires-4
+    same-length
+    returns)

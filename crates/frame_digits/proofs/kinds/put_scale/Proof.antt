@@ -1,0 +1,34 @@
+-- `frame_digits::kinds::put_scale` meets its contract.
+-- Assumes nothing.
+use Rattle.numbers.proofs.IntLaws.{back32}
+use Rattle.frame_bytes.specs.Frame.{scaleBytes}
+use Rattle.frame_bytes.proofs.PutLaws.{then}
+use borrow.Author.Needs.{needs}
+use Rattle.frame_digits.proofs.kinds.put_scale.Statement.{statement}
+use Rattle.frame_digits.proofs.kinds.put_scale.Tie as tie
+
+put-i32-requires : tie.Need-put-i32-requires
+put-i32-requires c κs = search needs
+
+put-i32-requires-2 : tie.Need-put-i32-requires-2
+put-i32-requires-2 c κs = search needs
+
+put-i32-requires-3 : tie.Need-put-i32-requires-3
+put-i32-requires-3 c κs = search needs
+
+same-length : tie.Need-same-length
+same-length c = search needs
+
+returns : tie.Need-returns
+unfolding scaleBytes
+returns c =
+    let vertical = c .before .before in
+    let horizontal = vertical .before .before .before .before .before in
+    let font = horizontal .before .before .before .before .before in
+    let s = font .before .before .before .before .args .s in
+    then (then (rw (back32 (s .font) (font .before .struct-told .given .0 .1)) at (font .put-i32 .ensures))
+    (rw (back32 (s .horizontal) (horizontal .before .struct-told2 .given .1 .0 .1)) at (horizontal .put-i322 .ensures)))
+    (rw (back32 (s .vertical) (vertical .before .struct-told3 .given .1 .1 .0 .1)) at (vertical .put-i323 .ensures))
+
+pub put-scale-spec : {M : Type 1} → statement M
+put-scale-spec = tie.close (tie.spec put-i32-requires put-i32-requires-2 put-i32-requires-3 same-length returns)
