@@ -19,7 +19,7 @@ use Rattle.grammar.specs.Normal.{blocks, normal, normalised}
 use Rattle.grammar.proofs.FoundLaws.{reads}
 use Rattle.grammar.proofs.Normalises.{normalises}
 use Rattle.grammar.proofs.EplLaws.{inside}
-use Rattle.frames.specs.Listing.{FramedLabel}
+use Rattle.file_listing.specs.Listing.{FramedLabel}
 use Rattle.joining.specs.Join.{clearLine}
 
 pub clearing : Clearing epl blocks origin clearLine

@@ -18,7 +18,7 @@ use Rattle.walk_theory.specs.Strict.{Ends}
 use Rattle.walk_theory.specs.Join.{joinDue}
 use Rattle.grammar.specs.Epl.{epl}
 use Rattle.walk.specs.Steps.{traceOf}
-use Rattle.frames.specs.Listing.{FramedLabel, FramedOutcome, outcomeOf}
+use Rattle.file_listing.specs.Listing.{FramedLabel, FramedOutcome, outcomeOf}
 use Rattle.strict.specs.declared.verdict.Checked.{Checked}
 use Rattle.strict.specs.Look.{endOf, plainly}
 use Rattle.strict.proofs.LookLaws.{Plain, plain-ends, long-checks, long-verdict}

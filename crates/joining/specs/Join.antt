@@ -11,7 +11,7 @@ use Rattle.walk_theory.specs.Join.{joined, joinOf}
 use Rattle.grammar.specs.Units.{EplUnit, line}
 use Rattle.grammar.specs.Epl.{epl, origin}
 use Rattle.grammar.specs.Normal.{normalised}
-use Rattle.frames.specs.Listing.{outcomeOf}
+use Rattle.file_listing.specs.Listing.{outcomeOf}
 use Rattle.joining.specs.declared.answer.Joined.{Joined}
 
 -- "a line `N`"

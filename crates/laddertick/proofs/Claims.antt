@@ -62,7 +62,7 @@ use Rattle.changes.proofs.OneLineLaws.{old-division, new-division}
 use Rattle.walk.specs.declared.answer.Answer.{Answer}
 use Rattle.walk.specs.Steps.{answerOf}
 use Rattle.flat.proofs.FramesLaws.{flat-frame, flat-kind, flat-next}
-use Rattle.frames.specs.Listing.{FramedLabel, listingOf, outcomeOf, listingDue, dueOf}
+use Rattle.file_listing.specs.Listing.{FramedLabel, listingOf, outcomeOf, listingDue, dueOf}
 use Rattle.format.specs.Normalise as format
 use Rattle.profile.specs.Asks.{InProfile}
 use Rattle.strict.specs.declared.verdict.Checked.{Checked}
@@ -71,7 +71,7 @@ use Rattle.strict.specs.Listing.{strictDueOf}
 use Rattle.strict.specs.Look.{endOf}
 use Rattle.strict.proofs.ListingLaws.{own-due}
 use Rattle.strict.proofs.VerdictLaws.{accepted-by, clean-listed, listed-accepted, refused-plain, objected-by}
-use Rattle.frames.proofs.ListingRoomLaws.{length-listing-le, never-short}
+use Rattle.file_listing.proofs.ListingRoomLaws.{length-listing-le, never-short}
 use Rattle.index.specs.declared.entry.LabelEntry.{LabelEntry}
 use Rattle.walk_theory.specs.Join as theory-join
 use Rattle.joining.specs.Join.{joinedText, clearLine}

@@ -39,7 +39,7 @@ use Rattle.walk.specs.declared.answer.Answer.{Answer}
 use Rattle.walk.specs.declared.answer.Answer.the-variants.{Element, Clear, Print, End, Refused}
 use Rattle.walk.specs.Steps.{EplTrace, stateOf, answerOf}
 use Rattle.flat.specs.Steps.{walkOf}
-use Rattle.frames.specs.Listing.{outcomeOf, listingDue, dueOf}
+use Rattle.file_listing.specs.Listing.{outcomeOf, listingDue, dueOf}
 use Rattle.format.specs.Normalise as normal
 use Rattle.strict.specs.declared.verdict.Checked.{Checked}
 use Rattle.strict.specs.Listing.{strictDueOf}

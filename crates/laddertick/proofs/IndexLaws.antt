@@ -32,7 +32,7 @@ use Rattle.grammar.proofs.FoundLaws.{reads}
 use Rattle.walk.specs.declared.answer.Answer.{Answer}
 use Rattle.walk.specs.declared.answer.Answer.the-variants.{Element, Clear, Print, End, Refused}
 use Rattle.walk.specs.Steps.{stateOf, answerOf}
-use Rattle.frames.specs.Listing.{FramedLabel, labelLines}
+use Rattle.file_listing.specs.Listing.{FramedLabel, labelLines}
 use Rattle.index.specs.declared.entry.LabelEntry.{LabelEntry}
 use Rattle.index.specs.declared.labels.Indexed.the-variants as indexed
 use Rattle.index.specs.Entries.{EplEntry, entryOf, entriesOf, entriesFrom, noEntry}

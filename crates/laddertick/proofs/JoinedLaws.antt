@@ -19,7 +19,7 @@ use Rattle.grammar.proofs.FoundLaws.{reads}
 use Rattle.walk.specs.declared.answer.Answer.{Answer}
 use Rattle.walk.specs.declared.answer.Answer.the-variants.{Element, Clear, Print, End, Refused}
 use Rattle.walk.specs.Steps.{stateOf, answerOf}
-use Rattle.frames.specs.Listing.{outcomeOf}
+use Rattle.file_listing.specs.Listing.{outcomeOf}
 use Rattle.joining.specs.Join.{Joins}
 use Rattle.joining.proofs.JoinLaws.{Dues, due-first, joins-denied, joins-short, joins-written, joins-one, joins-kept}
 use Rattle.laddertick.specs.Contracts.{Library, Union, JoinDenies, JoinGives}

@@ -2,7 +2,7 @@
 use mathlib.Core.Path.{refl}
 use Rattle.elements.proofs.walk_state.start.Met as start
 use Rattle.walk.proofs.step.step.Met as step
-use Rattle.frames.proofs.listing.list.Met as list
+use Rattle.file_listing.proofs.listing.list.Met as list
 use Rattle.format.proofs.normalise.normalise.Met as normalise
 use Rattle.strict.proofs.check.check.Met as check
 use Rattle.strict.proofs.listing.strict_list.Met as strict-list

@@ -8,7 +8,7 @@ use borrow.Author.Tests.{lt-ltb}
 use Rattle.frame_bytes.specs.Frame.{frameOf}
 use Rattle.elements.specs.Given.{longest}
 use Rattle.walk_theory.specs.Index as theory
-use Rattle.frames.specs.Listing.{FramedLabel}
+use Rattle.file_listing.specs.Listing.{FramedLabel}
 use Rattle.index.specs.declared.entry.LabelEntry.{LabelEntry}
 use Rattle.index.specs.Entries.{noEntry}
 use Rattle.opening.specs.Opened as opening

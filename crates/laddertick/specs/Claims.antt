@@ -59,8 +59,8 @@ use Rattle.walk.specs.declared.answer.Answer.the-variants.{Element, End, Refuse
 use Rattle.walk.specs.Steps.{EplAnswer, stateOf, answerOf}
 use Rattle.flat.specs.Steps.{flatOf}
 use Rattle.flat.specs.Frames.{frameFlat, answerFrame, stateIn}
-use Rattle.frames.specs.Listing.{FramedLabel, labelLines, listingOf, outcomeOf, dueOf}
-use Rattle.frames.specs.Printing.{printedOf, shownOf}
+use Rattle.file_listing.specs.Listing.{FramedLabel, labelLines, listingOf, outcomeOf, dueOf}
+use Rattle.file_listing.specs.Printing.{printedOf, shownOf}
 use Rattle.profile.specs.Asks.{InProfile, Objected}
 use Rattle.profile.specs.Strict.{Own}
 use Rattle.strict.specs.declared.verdict.Checked.{Checked}

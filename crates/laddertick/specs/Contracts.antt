@@ -18,7 +18,7 @@ use Rattle.walk_theory.specs.Step.{step}
 use Rattle.grammar.specs.Epl.{epl}
 use Rattle.walk.specs.declared.answer.Answer.{Answer}
 use Rattle.walk.specs.Steps.{stateOf, answerOf}
-use Rattle.frames.specs.Listing as listing
+use Rattle.file_listing.specs.Listing as listing
 use Rattle.format.specs.Normalise as normal
 use Rattle.strict.specs.declared.verdict.Checked.{Checked}
 use Rattle.strict.specs.Verdict.{checkedOf}

@@ -7,7 +7,7 @@ use Rattle.frame_bytes.specs.Frame.{frameOf}
 use Rattle.walk_theory.specs.Index as theory
 use Rattle.index.specs.declared.entry.LabelEntry.{LabelEntry}
 use Rattle.index.specs.Entries.{noEntry}
-use Rattle.frames.specs.Listing.{FramedLabel}
+use Rattle.file_listing.specs.Listing.{FramedLabel}
 use Rattle.converting.specs.Conversion.{Drawn, drawnOf}
 use Rattle.converting.specs.Promise.{AllBegin}
 

@@ -22,9 +22,9 @@ use Rattle.elements.proofs.walk_state.start.Reads as start-reads
 use Rattle.walk.proofs.step.step.Statement as step
 use Rattle.walk.proofs.step.step.Kinds as step-kinds
 use Rattle.walk.proofs.step.step.Reads as step-reads
-use Rattle.frames.proofs.listing.list.Statement as list
-use Rattle.frames.proofs.listing.list.Kinds as list-kinds
-use Rattle.frames.proofs.listing.list.Reads as list-reads
+use Rattle.file_listing.proofs.listing.list.Statement as list
+use Rattle.file_listing.proofs.listing.list.Kinds as list-kinds
+use Rattle.file_listing.proofs.listing.list.Reads as list-reads
 use Rattle.format.proofs.normalise.normalise.Statement as normalise
 use Rattle.format.proofs.normalise.normalise.Kinds as normalise-kinds
 use Rattle.format.proofs.normalise.normalise.Reads as normalise-reads

@@ -16,7 +16,7 @@ use Rattle.grammar.specs.Epl.{epl}
 use Rattle.grammar.specs.Normal.{normalised}
 use Rattle.walk.specs.Steps as steps
 use Rattle.walk.specs.Steps.{EplAnswer}
-use Rattle.frames.specs.Listing.{dueOf}
+use Rattle.file_listing.specs.Listing.{dueOf}
 use Rattle.strict.specs.declared.verdict.Checked.{Checked}
 use Rattle.strict.specs.Verdict.{checkedOf}
 use Rattle.strict.specs.Listing.{strictDueOf}

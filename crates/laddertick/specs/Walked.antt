@@ -10,7 +10,7 @@ use Rattle.frame_bytes.specs.Frame.{frameOf}
 use Rattle.walk_theory.specs.Reach.{Final, accepted, refusal}
 use Rattle.walk.specs.declared.answer.Answer.{Answer}
 use Rattle.walk.specs.declared.answer.Answer.the-variants.{Element, Clear, Print, End, Refused}
-use Rattle.frames.specs.Listing.{FramedLabel}
+use Rattle.file_listing.specs.Listing.{FramedLabel}
 
 -- after an answer the walk goes on from the state that it returned, or is over
 pub data Next : Type 0 where

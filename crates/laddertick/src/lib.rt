@@ -52,7 +52,7 @@ pub use finds::found::Found;
 pub use finds::nearest::nearest;
 pub use flat::answer::Element;
 pub use format::normalise::normalise;
-pub use frames::listing::list;
+pub use file_listing::listing::list;
 pub use index::entry::LabelEntry;
 pub use index::labels::Indexed;
 pub use index::labels::index;

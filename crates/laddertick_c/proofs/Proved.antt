@@ -12,7 +12,7 @@ use Rattle.walk_theory.specs.Step as theory
 use Rattle.grammar.specs.Epl.{epl}
 use Rattle.walk.specs.Steps.{stateOf}
 use Rattle.flat.specs.Steps.{flatOf}
-use Rattle.frames.specs.Listing as listing
+use Rattle.file_listing.specs.Listing as listing
 use Rattle.format.specs.Normalise as normal
 use Rattle.strict.specs.Verdict.{checkedOf}
 use Rattle.strict.specs.Listing.{strictDueOf}

@@ -8,7 +8,7 @@ ghost use Rattle.decoding.specs.Decoding as decoding;
 ghost use Rattle.finds.specs.Found.{insideDue, touchingDue, nearestDue};
 ghost use Rattle.flat.specs.Written.{givenFlat, countedFlat, spotFlat};
 ghost use Rattle.format.specs.Normalise as normalise;
-ghost use Rattle.frames.specs.Listing as listing;
+ghost use Rattle.file_listing.specs.Listing as listing;
 ghost use Rattle.index.specs.Plan.{Indexes, fillingOf};
 ghost use Rattle.joining.specs.Join.{Joins};
 ghost use Rattle.opening.specs.Opened as opening;

@@ -10,8 +10,8 @@ use Rattle.elements.proofs.GivenLaws.{within-short}
 use Rattle.grammar.specs.Normal.{normalised}
 use Rattle.grammar.proofs.NormalLaws.{length-normalised-le}
 use Rattle.format.specs.Normalise.{dueOf}
-use Rattle.frames.specs.Printing.{shownFor}
-use Rattle.frames.proofs.PrintingProgramLaws.{Room}
+use Rattle.file_listing.specs.Printing.{shownFor}
+use Rattle.file_listing.proofs.PrintingProgramLaws.{Room}
 
 due-text : (s : List ℕ) → length s ≤ 65536 → dueOf s ≡ text (normalised s)
 due-text s h = within-short longest s (text (normalised s)) (omega arith)

@@ -2,13 +2,13 @@
 ghost use lib.ListN.{length};
 ghost use Rattle.text.specs.Wrote.{Put};
 ghost use Rattle.format.specs.Normalise.{dueOf};
-ghost use Rattle.frames.specs.Printing.{Shows};
+ghost use Rattle.file_listing.specs.Printing.{Shows};
 ghost use Rattle.normalise.specs.Printed.{printedOf};
 use frame_bytes::data::part;
 use elements::DataSpan;
 use elements::refusal::Refusal;
-use frames::printing::PROGRAM_MAX;
-use frames::printing::put_answer;
+use file_listing::printing::PROGRAM_MAX;
+use file_listing::printing::put_answer;
 use laddertick::Filled;
 use laddertick::normalise;
 use numbers::blank::first;

@@ -17,7 +17,7 @@ use Rattle.grammar.specs.Epl.{EplPrint, epl}
 use Rattle.walk.specs.Steps.{traceOf}
 use Rattle.index.specs.Entries.{entriesOf}
 use Rattle.index.specs.declared.entry.LabelEntry.{LabelEntry}
-use Rattle.frames.specs.Listing.{labelLines, labelText}
+use Rattle.file_listing.specs.Listing.{labelLines, labelText}
 use Rattle.opening.specs.declared.label.Found.{Found}
 use Rattle.opening.specs.declared.label.Found.the-variants.{Label, NoLabel}
 use Rattle.opening.specs.declared.start.Start.{Start}

@@ -7,7 +7,7 @@ use elements::filled::Filled;
 use elements::refusal::Refusal;
 use elements::walk_state::WalkState;
 use frame_digits::frame::frame_len;
-use frames::listing::put_label;
+use file_listing::listing::put_label;
 use index::entry::LabelEntry;
 use index::entry::entry_or;
 use index::entry::no_entry;

@@ -6,7 +6,7 @@ ghost use Prim.Native.Nat.{_<_};
 ghost use lib.ListN.{length};
 use frame_bytes::data::part;
 use elements::DataSpan;
-use frames::printing::print_listing;
+use file_listing::printing::print_listing;
 
 fn main() {
     let mut cases = [0u8; 524288];

@@ -13,7 +13,7 @@ use Rattle.walk_theory.specs.Trace.{ending, trace, final, labelsIn}
 use Rattle.walk_theory.specs.Strict.{Along}
 use Rattle.grammar.specs.Epl.{epl}
 use Rattle.walk.specs.Steps.{EplTrace, stateOf, traceOf}
-use Rattle.frames.specs.Listing.{FramedLabel, listingDue, dueOf}
+use Rattle.file_listing.specs.Listing.{FramedLabel, listingDue, dueOf}
 use Rattle.profile.specs.Strict.{strict, Own}
 use Rattle.profile.proofs.StrictLaws.{along}
 use Rattle.strict.specs.Verdict.{verdictOf, strictEnd, checkedOf}

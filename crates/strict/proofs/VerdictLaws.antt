@@ -25,7 +25,7 @@ use Rattle.walk_theory.proofs.OutcomeLaws.{ending-listed, divides→listed, lis
 use Rattle.grammar.specs.Epl.{epl, origin}
 use Rattle.grammar.proofs.EplLaws.{inside}
 use Rattle.walk.specs.Steps.{stateOf, traceOf}
-use Rattle.frames.specs.Listing.{FramedLabel}
+use Rattle.file_listing.specs.Listing.{FramedLabel}
 use Rattle.profile.specs.Asks.{InProfile, Objected}
 use Rattle.profile.specs.Strict.{strict, Own}
 use Rattle.profile.proofs.StrictLaws.{strict-epl-reads, along, strict-divides, divides-strict, fails-objected}

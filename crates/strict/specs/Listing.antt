@@ -6,7 +6,7 @@ use Rattle.elements.specs.Walk.{fresh}
 use Rattle.frame_bytes.specs.Frame.{frameOf}
 use Rattle.walk_theory.specs.Trace.{outcome}
 use Rattle.walk.specs.Steps.{stateOf}
-use Rattle.frames.specs.Listing.{FramedOutcome, listingDue}
+use Rattle.file_listing.specs.Listing.{FramedOutcome, listingDue}
 use Rattle.profile.specs.Strict.{strict}
 
 abbrev pub strictOutcomeOf : List ℕ → FramedOutcome

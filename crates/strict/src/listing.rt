@@ -4,7 +4,7 @@ ghost use Rattle.strict.specs.Listing.{strictDueOf};
 use crate::check::check;
 use elements::filled::Filled;
 use elements::refusal::Refusal;
-use frames::listing::list;
+use file_listing::listing::list;
 
 // The labels' frames from the start of out, or a refusal. Where the profile has no objection the plain listing is due,
 // or the plain refusal.

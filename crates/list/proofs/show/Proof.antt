@@ -2,8 +2,8 @@
 -- of them. Assumes nothing.
 use native.Mathlib.Omega.{arith}
 use borrow.Author.Needs.{needs}
-use Rattle.frames.specs.Listing.{dueOf}
-use Rattle.frames.proofs.PrintingProgramLaws.{shows, listing-room}
+use Rattle.file_listing.specs.Listing.{dueOf}
+use Rattle.file_listing.proofs.PrintingProgramLaws.{shows, listing-room}
 use Rattle.list.proofs.show.Statement.{statement}
 use Rattle.list.proofs.show.Tie as tie
 

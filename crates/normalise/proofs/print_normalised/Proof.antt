@@ -1,5 +1,5 @@
 -- `normalise::print_normalised` meets its contract. Assumes nothing.
-use Rattle.frames.proofs.PrintingLaws.{prints-long, prints-due}
+use Rattle.file_listing.proofs.PrintingLaws.{prints-long, prints-due}
 use Rattle.format.specs.Normalise.{dueOf}
 use borrow.Author.Needs.{needs}
 use Rattle.normalise.proofs.print_normalised.Statement.{statement}

@@ -3,7 +3,7 @@
 -- Assumes nothing.
 use native.Mathlib.Omega.{arith}
 use borrow.Author.Needs.{needs}
-use Rattle.frames.proofs.PrintingProgramLaws.{shows}
+use Rattle.file_listing.proofs.PrintingProgramLaws.{shows}
 use Rattle.format.specs.Normalise.{dueOf}
 use Rattle.normalise.proofs.PrintedLaws.{normalised-room}
 use Rattle.normalise.proofs.show.Statement.{statement}

@@ -16,8 +16,8 @@ use Rattle.walk.specs.Steps.{EplTrace, stateOf, traceOf}
 use Rattle.walk.specs.declared.answer.Answer.{Answer}
 use Rattle.walk.specs.declared.answer.Answer.the-variants.{Element, Clear, Print, End, Refused}
 use Rattle.walk.proofs.WalkLaws.{onStep, Moved, moved-by}
-use Rattle.frames.specs.Listing.{linesOf, frontFrames}
-use Rattle.frames.proofs.ListingLaws.{lead-by, after-by, length-label, frame-len-le, frame-len-is}
+use Rattle.file_listing.specs.Listing.{linesOf, frontFrames}
+use Rattle.file_listing.proofs.ListingLaws.{lead-by, after-by, length-label, frame-len-le, frame-len-is}
 use Rattle.opening.specs.Opened.{openingDue, firstDue}
 use Rattle.opening.proofs.FirstLaws.{first-by}
 use borrow.Author.Needs.{needs}

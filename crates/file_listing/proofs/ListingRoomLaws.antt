@@ -35,9 +35,9 @@ use Rattle.grammar.proofs.EplLaws.{act-yields}
 use Rattle.grammar.proofs.WellFormedLengthLaws.{Long, line-long}
 use Rattle.elements.specs.Walk.{fresh}
 use Rattle.walk.specs.Steps.{EplAnswer, EplTrace, stateOf, traceOf}
-use Rattle.frames.specs.Listing.{FramedLabel, FramedOutcome, linesOf, labelLines, listingOf, outcomeOf, listingDue, dueOf, pendingAt, textOf}
-use Rattle.frames.specs.Printing.{shownOf, refusalBy, shownBy, printedOf}
-use Rattle.frames.proofs.ListingLaws.{length-lines, length-label, length-pending-le}
+use Rattle.file_listing.specs.Listing.{FramedLabel, FramedOutcome, linesOf, labelLines, listingOf, outcomeOf, listingDue, dueOf, pendingAt, textOf}
+use Rattle.file_listing.specs.Printing.{shownOf, refusalBy, shownBy, printedOf}
+use Rattle.file_listing.proofs.ListingLaws.{length-lines, length-label, length-pending-le}
 
 -- a line of 2 digits a byte and an LF, and 11 of the 27 bytes of frame 00's line; a print line pays the other 16
 abbrev Pays : ℕ → LabelElement → Type 0

@@ -1,8 +1,8 @@
--- `frames::printing::put_answer` meets its contract. Assumes nothing.
+-- `file_listing::printing::put_answer` meets its contract. Assumes nothing.
 use borrow.Author.Needs.{needs}
-use Rattle.frames.proofs.PrintingLaws.{prints-refusal, prints-nothing}
-use Rattle.frames.proofs.printing.put_answer.Statement.{statement}
-use Rattle.frames.proofs.printing.put_answer.Tie as tie
+use Rattle.file_listing.proofs.PrintingLaws.{prints-refusal, prints-nothing}
+use Rattle.file_listing.proofs.printing.put_answer.Statement.{statement}
+use Rattle.file_listing.proofs.printing.put_answer.Tie as tie
 
 enum-known-a : tie.Need-enum-known-a
 enum-known-a c = search needs

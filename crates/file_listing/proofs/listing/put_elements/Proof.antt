@@ -1,4 +1,4 @@
--- `frames::listing::put_elements` meets its contract. Invariant: with the frames that the walk still begins with, the
+-- `file_listing::listing::put_elements` meets its contract. Invariant: with the frames that the walk still begins with, the
 -- buffer is what it shall be. Measure: what is left of the walk. Assumes nothing.
 use mathlib.Core.Path.{_≡_, refl, _∙_}
 use mathlib.Core.List.{List}
@@ -12,12 +12,12 @@ use Rattle.frame_bytes.specs.Frame.{frameOf}
 use Rattle.frame_bytes.specs.Hex.{lineOf}
 use Rattle.walk.specs.declared.answer.Answer.{Answer}
 use Rattle.walk.specs.declared.answer.Answer.the-variants.{Element}
-use Rattle.frames.specs.Listing.{linesOf, frontFrames}
+use Rattle.file_listing.specs.Listing.{linesOf, frontFrames}
 use Rattle.walk.proofs.WalkLaws.{onStep, Moved, moved-by}
-use Rattle.frames.proofs.ListingLaws.{lead-none, lead-by}
+use Rattle.file_listing.proofs.ListingLaws.{lead-none, lead-by}
 use borrow.Author.Needs.{needs}
-use Rattle.frames.proofs.listing.put_elements.Statement.{statement}
-use Rattle.frames.proofs.listing.put_elements.Tie as tie
+use Rattle.file_listing.proofs.listing.put_elements.Statement.{statement}
+use Rattle.file_listing.proofs.listing.put_elements.Tie as tie
 
 abbrev Inv-loop : tie.InvT-loop
 Inv-loop input out₀ at to₀ here₀ out to here = Toward out to (linesOf (frontFrames input here)) out₀ at (linesOf (frontFrames input here₀))

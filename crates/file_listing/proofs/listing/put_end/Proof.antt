@@ -1,11 +1,11 @@
--- `frames::listing::put_end` meets its contract. Assumes nothing.
+-- `file_listing::listing::put_end` meets its contract. Assumes nothing.
 use mathlib.Core.Path.{refl}
 use native.Mathlib.Omega.{arith}
 use Rattle.text.proofs.WroteLaws.{wrote}
-use Rattle.frames.proofs.ListingLaws.{length-pending, pending-some, pending-none}
+use Rattle.file_listing.proofs.ListingLaws.{length-pending, pending-some, pending-none}
 use borrow.Author.Needs.{needs}
-use Rattle.frames.proofs.listing.put_end.Statement.{statement}
-use Rattle.frames.proofs.listing.put_end.Tie as tie
+use Rattle.file_listing.proofs.listing.put_end.Statement.{statement}
+use Rattle.file_listing.proofs.listing.put_end.Tie as tie
 
 put-pending-requires : tie.Need-put-pending-requires
 put-pending-requires c κs = omega (arith, length-pending (c .before .before .before .args .n) (c .before .if1 .taken))

@@ -1,9 +1,9 @@
--- `frames::printing::print_listing` meets its contract. Assumes nothing.
-use Rattle.frames.specs.Listing.{dueOf}
-use Rattle.frames.proofs.PrintingLaws.{prints-long, prints-due}
+-- `file_listing::printing::print_listing` meets its contract. Assumes nothing.
+use Rattle.file_listing.specs.Listing.{dueOf}
+use Rattle.file_listing.proofs.PrintingLaws.{prints-long, prints-due}
 use borrow.Author.Needs.{needs}
-use Rattle.frames.proofs.printing.print_listing.Statement.{statement}
-use Rattle.frames.proofs.printing.print_listing.Tie as tie
+use Rattle.file_listing.proofs.printing.print_listing.Statement.{statement}
+use Rattle.file_listing.proofs.printing.print_listing.Tie as tie
 
 put-answer-requires : tie.Need-put-answer-requires
 put-answer-requires c κs = search needs

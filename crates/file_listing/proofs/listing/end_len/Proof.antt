@@ -1,10 +1,10 @@
--- `frames::listing::end_len` meets its contract. Assumes nothing.
+-- `file_listing::listing::end_len` meets its contract. Assumes nothing.
 use mathlib.Core.Path.{sym}
 use native.Mathlib.Omega.{arith}
-use Rattle.frames.proofs.ListingLaws.{length-pending}
+use Rattle.file_listing.proofs.ListingLaws.{length-pending}
 use borrow.Author.Needs.{needs}
-use Rattle.frames.proofs.listing.end_len.Statement.{statement}
-use Rattle.frames.proofs.listing.end_len.Tie as tie
+use Rattle.file_listing.proofs.listing.end_len.Statement.{statement}
+use Rattle.file_listing.proofs.listing.end_len.Tie as tie
 
 returns : tie.Need-returns
 returns c = search needs

@@ -9,7 +9,7 @@ use Rattle.text.specs.Wrote.{Wrote}
 use Rattle.frame_bytes.specs.Frame.{refusalFrame}
 use Rattle.frame_bytes.specs.Hex.{lineOf}
 use Rattle.elements.specs.Given.{Given, bytes, refused, Due, text, denied, within, fitting}
-use Rattle.frames.specs.Listing.{dueOf}
+use Rattle.file_listing.specs.Listing.{dueOf}
 
 -- "A refusal prints only ff, its number (1 byte), its place"
 abbrev pub refusalLine : ℕ → ℕ → List ℕ

@@ -26,7 +26,7 @@ use Rattle.walk.specs.declared.answer.Answer.{Answer}
 use Rattle.walk.specs.declared.answer.Answer.the-variants.{Element, Clear, Print, End, Refused}
 use Rattle.walk.proofs.answer.Answer.{enum}
 use Rattle.walk.proofs.WalkLaws.{onStep, begins}
-use Rattle.frames.specs.Listing.{linesOf, labelLines, pendingLine, listingOf, pendingAt, frontFrames, textOf, textFrom}
+use Rattle.file_listing.specs.Listing.{linesOf, labelLines, pendingLine, listingOf, pendingAt, frontFrames, textOf, textFrom}
 
 pub length-lines : (p : List (List ℕ)) (f : List ℕ) → length (linesOf (p ++ (f ∷ []))) ≡ length (linesOf p) + (2 * length f + 1)
 length-lines [] f = length-append (lineOf f) [] ∙ omega (arith, length-line f)

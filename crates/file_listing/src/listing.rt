@@ -6,7 +6,7 @@ ghost use Prim.Native.Nat.{_+_, _≤_};
 ghost use lib.ListN.{length};
 ghost use Rattle.text.specs.Wrote.{Put};
 ghost use Rattle.elements.specs.Given.{needed, Fills, givenOf};
-ghost use Rattle.frames.specs.Listing.{linesOf, frontFrames, labelText, pendingLine, allText, dueOf};
+ghost use Rattle.file_listing.specs.Listing.{linesOf, frontFrames, labelText, pendingLine, allText, dueOf};
 use elements::filled::Filled;
 use elements::refusal::Refusal;
 use elements::walk_state::WalkState;

@@ -1,4 +1,4 @@
--- `frames::listing::measure` meets its contract. Invariant: what is counted so far, and the rest of the walk. Measure:
+-- `file_listing::listing::measure` meets its contract. Invariant: what is counted so far, and the rest of the walk. Measure:
 -- what is left of it.
 -- Assumes nothing.
 use mathlib.Core.Path.{_≡_, sym, ap, _∙_, refl}
@@ -13,16 +13,16 @@ use Rattle.walk.specs.declared.answer.Answer.{Answer}
 use Rattle.walk.specs.declared.answer.Answer.the-variants.{Element, Clear, Print, End, Refused}
 use Rattle.elements.specs.declared.walk_state.WalkState.{WalkState}
 use Rattle.walk.proofs.WalkLaws.{onStep, Moved, begins, moved-by}
-use Rattle.frames.proofs.ListingLaws.{length-lines, length-label, length-pending-le, frame-len-le, frame-len-is}
+use Rattle.file_listing.proofs.ListingLaws.{length-lines, length-label, length-pending-le, frame-len-le, frame-len-is}
 use Rattle.frame_bytes.specs.Frame.{frameOf}
 use Rattle.walk_theory.specs.Reach.{Final, accepted, refusal}
 use Rattle.elements.specs.Given.{Given, bytes, refused, needed}
 use Rattle.walk_theory.specs.Trace.{stops, refuses, yields, clears, prints, ending, final, labelsIn}
 use Rattle.grammar.specs.Epl.{epl}
-use Rattle.frames.specs.Listing.{FramedLabel, linesOf, labelLines, pendingLine, listingOf, listingDue, dueOf}
+use Rattle.file_listing.specs.Listing.{FramedLabel, linesOf, labelLines, pendingLine, listingOf, listingDue, dueOf}
 use borrow.Author.Needs.{needs}
-use Rattle.frames.proofs.listing.measure.Statement.{statement}
-use Rattle.frames.proofs.listing.measure.Tie as tie
+use Rattle.file_listing.proofs.listing.measure.Statement.{statement}
+use Rattle.file_listing.proofs.listing.measure.Tie as tie
 
 -- the length, as the first pass counts it: of the labels so far, and of what is pending
 abbrev sizeFrom : List ℕ → ℕ → ℕ → EplTrace → Given

@@ -1,4 +1,4 @@
--- `frames::listing::list` meets its contract: the first pass says what is due, and only what fits is written. Assumes
+-- `file_listing::listing::list` meets its contract: the first pass says what is due, and only what fits is written. Assumes
 -- nothing.
 use mathlib.Core.Path.{_≡_, sym, ap, _∙_, refl}
 use mathlib.Core.List.{List, []}
@@ -9,7 +9,7 @@ use Rattle.elements.specs.declared.filled.Filled.{Filled}
 use Rattle.elements.specs.declared.filled.Filled.the-variants.{Bytes, Refused}
 use Rattle.elements.specs.Given.{needed, givenOf, bytes, text}
 use Rattle.elements.proofs.GivenLaws.{needed-denied, fills-denied, fills-short, fills-written, bytes≢refused, bytes-inj}
-use Rattle.frames.specs.Listing.{dueOf, FramedLabel, listingOf, listingDue, pendingAt, textFrom}
+use Rattle.file_listing.specs.Listing.{dueOf, FramedLabel, listingOf, listingDue, pendingAt, textFrom}
 use Rattle.frame_bytes.specs.Frame.{frameOf}
 use Rattle.walk_theory.specs.Reach.{Final, accepted, refusal}
 use Rattle.walk_theory.specs.Trace.{ending, final, labelsIn}
@@ -17,8 +17,8 @@ use Rattle.grammar.specs.Epl.{epl}
 use Rattle.elements.specs.Walk.{fresh}
 use Rattle.walk.specs.Steps.{traceOf}
 use borrow.Author.Needs.{needs}
-use Rattle.frames.proofs.listing.list.Statement.{statement}
-use Rattle.frames.proofs.listing.list.Tie as tie
+use Rattle.file_listing.proofs.listing.list.Statement.{statement}
+use Rattle.file_listing.proofs.listing.list.Tie as tie
 
 -- the labels that are written, where the walk lists them
 due-by : (f : Final) (ls : List FramedLabel) (n : ℕ) → bytes n ≡ needed (listingDue (ending f ls)) → listingDue (ending f ls) ≡ text (listingOf ls (pendingAt f))

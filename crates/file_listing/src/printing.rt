@@ -2,7 +2,7 @@
 ghost use lib.ListN.{length};
 ghost use Rattle.text.specs.Wrote.{Put};
 ghost use Rattle.elements.specs.Given.{givenOf};
-ghost use Rattle.frames.specs.Printing.{Prints, printedOf};
+ghost use Rattle.file_listing.specs.Printing.{Prints, printedOf};
 use crate::listing::list;
 use elements::filled::Filled;
 use elements::refusal::Refusal;

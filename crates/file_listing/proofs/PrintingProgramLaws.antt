@@ -17,9 +17,9 @@ use Rattle.frame_bytes.proofs.HexLaws.{length-line, length-be32}
 use Rattle.elements.specs.Given.{Due, text, denied, fitting}
 use Rattle.walk_theory.specs.Trace.{listed, refusal-of}
 use Rattle.elements.proofs.GivenLaws.{within-long, within-short}
-use Rattle.frames.specs.Listing.{FramedLabel, FramedOutcome, listingOf, outcomeOf, listingDue, dueOf}
-use Rattle.frames.specs.Printing.{refusalBy, shownOf, shownBy, printed, Took, shownFor, Shows}
-use Rattle.frames.proofs.ListingRoomLaws.{length-listing-le}
+use Rattle.file_listing.specs.Listing.{FramedLabel, FramedOutcome, listingOf, outcomeOf, listingDue, dueOf}
+use Rattle.file_listing.specs.Printing.{refusalBy, shownOf, shownBy, printed, Took, shownFor, Shows}
+use Rattle.file_listing.proofs.ListingRoomLaws.{length-listing-le}
 
 -- what was written at the start of a buffer stands there
 put-front : {n l bs : List ℕ} {r : ℕ} → length bs ≤ length l → Put n l 0 bs r → take r n ≡ bs

@@ -1,4 +1,4 @@
--- `frames::listing::put_labels` meets its contract. Invariant: with the labels from start on, the buffer is what it
+-- `file_listing::listing::put_labels` meets its contract. Invariant: with the labels from start on, the buffer is what it
 -- shall be; only elements stand between start and here. Measure: what is left of the walk. Assumes nothing.
 use mathlib.Core.Path.{_≡_, refl, sym, ap, _∙_}
 use mathlib.Core.List.{List, [], append-nil}
@@ -11,12 +11,12 @@ use Rattle.walk.specs.Steps.{traceOf}
 use Rattle.elements.specs.declared.walk_state.WalkState.{WalkState}
 use Rattle.walk.specs.declared.answer.Answer.{Answer}
 use Rattle.walk.specs.declared.answer.Answer.the-variants.{Element, Clear, Print, End, Refused}
-use Rattle.frames.specs.Listing.{labelText, pendingLine, frontFrames, textOf, textFrom, allText}
+use Rattle.file_listing.specs.Listing.{labelText, pendingLine, frontFrames, textOf, textFrom, allText}
 use Rattle.walk.proofs.WalkLaws.{onStep, Moved, moved-by}
-use Rattle.frames.proofs.ListingLaws.{text-by, after-by}
+use Rattle.file_listing.proofs.ListingLaws.{text-by, after-by}
 use borrow.Author.Needs.{needs}
-use Rattle.frames.proofs.listing.put_labels.Statement.{statement}
-use Rattle.frames.proofs.listing.put_labels.Tie as tie
+use Rattle.file_listing.proofs.listing.put_labels.Statement.{statement}
+use Rattle.file_listing.proofs.listing.put_labels.Tie as tie
 
 abbrev Inv-loop : tie.InvT-loop
 Inv-loop input out₀ first₀ here₀ at₀ out first here at = Toward out at (textFrom input first) out₀ 0 (allText input) × (after (traceOf input first) ≡ after (traceOf input here))

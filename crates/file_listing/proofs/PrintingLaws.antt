@@ -10,7 +10,7 @@ use Rattle.text.specs.Wrote.{Put}
 use Rattle.text.proofs.WroteLaws.{wrote}
 use Rattle.elements.specs.Given.{Given, refused, Due, text, denied, fitting, needed, stored, Fills}
 use Rattle.elements.proofs.GivenLaws.{within-long, within-short}
-use Rattle.frames.specs.Printing.{refusalLine, refusalBy, shownBy, printed, Prints}
+use Rattle.file_listing.specs.Printing.{refusalLine, refusalBy, shownBy, printed, Prints}
 
 -- m is what the call made of l by what fitted, and n what is printed from
 shown : (n m l : List ℕ) (r : ℕ) (x : Due) → m ≡ stored x l → Prints n m (needed x) r → Put n l 0 (shownBy (length l) x) r

@@ -1,4 +1,4 @@
--- `frames::listing::put_label` meets its contract: frame 00, then the frames of the elements. Assumes nothing.
+-- `file_listing::listing::put_label` meets its contract: frame 00, then the frames of the elements. Assumes nothing.
 use mathlib.Core.Path.{_∙_}
 use mathlib.Core.List.{List, _++_}
 use Prim.Native.Nat.{ℕ}
@@ -6,13 +6,13 @@ use native.Mathlib.Omega.{arith}
 use lib.ListN.{length-append}
 use Rattle.frame_bytes.specs.Frame.{labelFrame}
 use Rattle.frame_bytes.specs.Hex.{lineOf}
-use Rattle.frames.specs.Listing.{linesOf, frontFrames}
-use Rattle.frames.proofs.ListingLaws.{length-frame, length-label}
+use Rattle.file_listing.specs.Listing.{linesOf, frontFrames}
+use Rattle.file_listing.proofs.ListingLaws.{length-frame, length-label}
 use Rattle.text.specs.Wrote.{Put}
 use Rattle.text.proofs.WroteLaws.{wrote, sets-append}
 use borrow.Author.Needs.{needs}
-use Rattle.frames.proofs.listing.put_label.Statement.{statement}
-use Rattle.frames.proofs.listing.put_label.Tie as tie
+use Rattle.file_listing.proofs.listing.put_label.Statement.{statement}
+use Rattle.file_listing.proofs.listing.put_label.Tie as tie
 
 -- the stores of one text and then of another
 put-both : {m n l : List ℕ} {at j r : ℕ} (xs ys : List ℕ) → Put m l at xs j → Put n m j ys r → Put n l at (xs ++ ys) r
