@@ -26,7 +26,7 @@ use Rattle.walk_theory.specs.Trace.{trace}
 use Rattle.grammar.specs.Epl.{EplPrint, epl}
 use Rattle.index.specs.Entries.{EplEntry, entryOf, entriesOf, noEntry}
 use Rattle.index.specs.declared.entry.LabelEntry.{LabelEntry}
-use Rattle.flat.specs.Flat.{flatElement}
+use Rattle.structs.specs.Flat.{flatElement}
 use Rattle.dots.specs.declared.element.Element300.{Element300}
 use Rattle.dots.specs.Length.{to300}
 use Rattle.dots.specs.Element as one

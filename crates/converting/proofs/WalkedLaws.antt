@@ -24,7 +24,7 @@ use Rattle.grammar.specs.Size.{unitSize}
 use Rattle.grammar.proofs.FoundLaws.{reads}
 use Rattle.grammar.proofs.SizeLaws.{size-unit}
 use Rattle.walk.specs.Steps.{EplAnswer, stateOf}
-use Rattle.flat.specs.Flat.{flatElement}
+use Rattle.structs.specs.Flat.{flatElement}
 use Rattle.dots.specs.declared.element.Element300.{Element300}
 use Rattle.dots.specs.Element.{convertedElement, orNothing}
 use Rattle.converting.specs.Placed.{placed, placedAct}

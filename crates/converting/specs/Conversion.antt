@@ -13,7 +13,7 @@ use Rattle.walk_theory.specs.Index.{Opening, opens, opening}
 use Rattle.grammar.specs.Epl.{EplPrint, epl}
 use Rattle.index.specs.Entries.{entriesOf}
 use Rattle.index.specs.declared.entry.LabelEntry.{LabelEntry}
-use Rattle.flat.specs.Flat.{flatElement}
+use Rattle.structs.specs.Flat.{flatElement}
 use Rattle.dots.specs.declared.element.Element300.{Element300}
 use Rattle.dots.specs.Element as dots
 use Rattle.dots.specs.Element.{element300}

@@ -14,8 +14,8 @@ use Rattle.walk_theory.specs.Language.{unit, yield}
 use Rattle.grammar.specs.Units.{EplUnit}
 use Rattle.grammar.specs.Epl.{EplPrint, epl}
 use Rattle.grammar.specs.Shapes.{placeOf}
-use Rattle.flat.specs.declared.answer.Element.{Element}
-use Rattle.flat.specs.Flat.{flatElement}
+use Rattle.structs.specs.declared.answer.Element.{Element}
+use Rattle.structs.specs.Flat.{flatElement}
 use Rattle.dots.specs.declared.length.Dots300.{Dots300}
 use Rattle.dots.specs.declared.element.Element300.{Element300}
 use Rattle.dots.specs.Length.{Nearest, to300}

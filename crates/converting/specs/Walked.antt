@@ -19,8 +19,8 @@ use Rattle.grammar.specs.Size.{unitSize}
 use Rattle.walk.specs.Steps.{EplAnswer, stateOf}
 use Rattle.index.specs.Entries.{entryOf}
 use Rattle.index.specs.declared.entry.LabelEntry.{LabelEntry}
-use Rattle.flat.specs.Flat.{flatElement}
-use Rattle.flat.specs.Steps.{walkOf}
+use Rattle.structs.specs.Flat.{flatElement}
+use Rattle.structs.specs.Steps.{walkOf}
 use Rattle.dots.specs.declared.element.Element300.{Element300}
 use Rattle.dots.specs.Element.{convertedElement, orNothing}
 use Rattle.converting.specs.Placed.{placed}

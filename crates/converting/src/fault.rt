@@ -7,8 +7,8 @@ use dots::element::ConvertedElement;
 use dots::element::convert_element;
 use elements::LabelElement;
 use elements::walk_state::WalkState;
-use flat::answer::Element;
-use flat::element::flat_element;
+use structs::answer::Element;
+use structs::element::flat_element;
 use walk::answer::Answer;
 use walk::step::step;
 

@@ -8,7 +8,7 @@ ghost use Rattle.converting.specs.Walked.{nextOf, WithinCursor};
 use dots::element::Element300;
 use dots::element::element_300;
 use elements::walk_state::WalkState;
-use flat::element::flat_element;
+use structs::element::flat_element;
 use walk::answer::Answer;
 use walk::step::step;
 

@@ -6,7 +6,7 @@ use Prim.Native.Nat.{ℕ}
 use native.Mathlib.Omega.{arith}
 use lib.IntN.{ℤ}
 use Rattle.numbers.specs.Int.{in32}
-use Rattle.flat.specs.declared.answer.Element.{Element}
+use Rattle.structs.specs.declared.answer.Element.{Element}
 use Rattle.dots.specs.declared.length.Dots300.{Dots300}
 use Rattle.dots.specs.declared.length.Converted.the-variants.{Dots, Outside}
 use Rattle.dots.specs.declared.element.Lengths203.{Lengths203}

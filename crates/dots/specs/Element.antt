@@ -6,7 +6,7 @@ use lib.Dec.{eqb, leb}
 use lib.IntN.{ℤ, pos}
 use lib.Ieee.{binary64, ofBits}
 use Rattle.numbers.specs.Int.{in32}
-use Rattle.flat.specs.declared.answer.Element.{Element}
+use Rattle.structs.specs.declared.answer.Element.{Element}
 use Rattle.dots.specs.declared.length.Dots203.{Dots203}
 use Rattle.dots.specs.declared.length.Dots300.{Dots300}
 use Rattle.dots.specs.declared.element.Element300.{Element300}

@@ -5,7 +5,7 @@ use crate::length::Converted;
 use crate::length::Dots203;
 use crate::length::Dots300;
 use crate::length::to_300;
-use flat::answer::Element;
+use structs::answer::Element;
 
 // The fields of the flat element, at 300 dots an inch: no length in 203rds can stand in one of its lengths.
 #[repr(C)]

@@ -61,7 +61,7 @@ use Rattle.changes.proofs.OneLineLaws as changes
 use Rattle.changes.proofs.OneLineLaws.{old-division, new-division}
 use Rattle.walk.specs.declared.answer.Answer.{Answer}
 use Rattle.walk.specs.Steps.{answerOf}
-use Rattle.flat.proofs.FramesLaws.{flat-frame, flat-kind, flat-next}
+use Rattle.structs.proofs.FramesLaws.{flat-frame, flat-kind, flat-next}
 use Rattle.file_listing.specs.Listing.{FramedLabel, listingOf, outcomeOf, listingDue, dueOf}
 use Rattle.format.specs.Normalise as format
 use Rattle.profile.specs.Asks.{InProfile}

@@ -38,7 +38,7 @@ use Rattle.grammar.proofs.FaultsLaws.{first-fault, fault-between}
 use Rattle.walk.specs.declared.answer.Answer.{Answer}
 use Rattle.walk.specs.declared.answer.Answer.the-variants.{Element, Clear, Print, End, Refused}
 use Rattle.walk.specs.Steps.{EplTrace, stateOf, answerOf}
-use Rattle.flat.specs.Steps.{walkOf}
+use Rattle.structs.specs.Steps.{walkOf}
 use Rattle.file_listing.specs.Listing.{outcomeOf, listingDue, dueOf}
 use Rattle.format.specs.Normalise as normal
 use Rattle.strict.specs.declared.verdict.Checked.{Checked}

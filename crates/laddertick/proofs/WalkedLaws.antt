@@ -14,7 +14,7 @@ use Rattle.grammar.specs.Epl.{epl}
 use Rattle.walk.specs.declared.answer.Answer.{Answer}
 use Rattle.walk.specs.declared.answer.Answer.the-variants.{Element, Clear, Print, End, Refused}
 use Rattle.walk.specs.Steps.{EplAnswer, answerOf}
-use Rattle.flat.specs.Steps.{walkOf}
+use Rattle.structs.specs.Steps.{walkOf}
 use Rattle.laddertick.specs.Contracts.{Stepped}
 use Rattle.laddertick.specs.Walked.{Next, on-from, over, next, Walked, stop, go-on, answered}
 

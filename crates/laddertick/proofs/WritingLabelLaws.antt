@@ -15,8 +15,8 @@ use Rattle.elements.specs.declared.LabelElement.{LabelElement}
 use Rattle.elements.specs.declared.LabelElement.the-variants as element
 use Rattle.elements.specs.declared.PrintCounts.{PrintCounts}
 use Rattle.elements.specs.Given.{longest, text, denied}
-use Rattle.flat.specs.declared.answer.Element.{Element}
-use Rattle.flat.specs.Flat.{flatElement}
+use Rattle.structs.specs.declared.answer.Element.{Element}
+use Rattle.structs.specs.Flat.{flatElement}
 use Rattle.dots.specs.declared.element.Element300.{Element300}
 use Rattle.converting.specs.Promise.{Turned}
 use Rattle.spellings.specs.Due.{noLabel, labelDue}

@@ -7,8 +7,8 @@ use borrow.Author.Tests.{lt-ltb}
 use Rattle.elements.specs.declared.LabelElement.{LabelElement}
 use Rattle.elements.specs.declared.PrintCounts.{PrintCounts}
 use Rattle.elements.specs.Given.{longest, denied, Due, needed, stored, fitting, givenOf}
-use Rattle.flat.specs.declared.answer.Element.{Element}
-use Rattle.flat.specs.Flat.{flatElement}
+use Rattle.structs.specs.declared.answer.Element.{Element}
+use Rattle.structs.specs.Flat.{flatElement}
 use Rattle.unflat.specs.Unflat.{Stands}
 use Rattle.unflat.proofs.UnflatLaws.{told}
 use Rattle.writing.specs.Plain.{plainDue}

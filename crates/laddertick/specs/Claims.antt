@@ -57,8 +57,8 @@ use Rattle.grammar.specs.Normal.{blocks, normalised}
 use Rattle.walk.specs.declared.answer.Answer.{Answer}
 use Rattle.walk.specs.declared.answer.Answer.the-variants.{Element, End, Refused}
 use Rattle.walk.specs.Steps.{EplAnswer, stateOf, answerOf}
-use Rattle.flat.specs.Steps.{flatOf}
-use Rattle.flat.specs.Frames.{frameFlat, answerFrame, stateIn}
+use Rattle.structs.specs.Steps.{flatOf}
+use Rattle.structs.specs.Frames.{frameFlat, answerFrame, stateIn}
 use Rattle.file_listing.specs.Listing.{FramedLabel, labelLines, listingOf, outcomeOf, dueOf}
 use Rattle.file_listing.specs.Printing.{printedOf, shownOf}
 use Rattle.profile.specs.Asks.{InProfile, Objected}

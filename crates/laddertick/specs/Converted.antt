@@ -11,13 +11,13 @@ use Rattle.elements.specs.declared.DataSpan.{DataSpan}
 use Rattle.elements.specs.declared.LabelPosition.{LabelPosition}
 use Rattle.grammar.specs.Epl.{origin}
 use Rattle.index.specs.declared.entry.LabelEntry.{LabelEntry}
-use Rattle.flat.specs.declared.answer.Element.{Element}
-use Rattle.flat.specs.Fields.{saying}
-use Rattle.flat.specs.Fields.{rotation, reverse, colour, direction, line, check, truncate, level}
-use Rattle.flat.specs.Fields.{width, height, security, columns, rows}
-use Rattle.flat.specs.Fields.{magnification, size, mode, font, horizontal, vertical, wide}
-use Rattle.flat.specs.Fields.{text-height, text-width, ratio}
-use Rattle.flat.specs.Flat.{drawn}
+use Rattle.structs.specs.declared.answer.Element.{Element}
+use Rattle.structs.specs.Fields.{saying}
+use Rattle.structs.specs.Fields.{rotation, reverse, colour, direction, line, check, truncate, level}
+use Rattle.structs.specs.Fields.{width, height, security, columns, rows}
+use Rattle.structs.specs.Fields.{magnification, size, mode, font, horizontal, vertical, wide}
+use Rattle.structs.specs.Fields.{text-height, text-width, ratio}
+use Rattle.structs.specs.Flat.{drawn}
 use Rattle.dots.specs.declared.element.Element300.{Element300}
 use Rattle.converting.specs.Conversion as due
 use Rattle.converting.specs.Promise.{withDots}

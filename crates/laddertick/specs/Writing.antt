@@ -10,8 +10,8 @@ use lib.Signed.{mag}
 use Rattle.elements.specs.declared.LabelElement.{LabelElement}
 use Rattle.elements.specs.declared.PrintCounts.{PrintCounts}
 use Rattle.elements.specs.Given.{longest, text, givenOf}
-use Rattle.flat.specs.declared.answer.Element.{Element}
-use Rattle.flat.specs.Flat.{flatElement}
+use Rattle.structs.specs.declared.answer.Element.{Element}
+use Rattle.structs.specs.Flat.{flatElement}
 use Rattle.dots.specs.declared.element.Element300.{Element300}
 use Rattle.converting.specs.Promise.{withDots, Turned}
 use Rattle.unflat.specs.Unflat.{Stands, Sized}

@@ -50,7 +50,7 @@ pub use finds::find::inside;
 pub use finds::find::touching;
 pub use finds::found::Found;
 pub use finds::nearest::nearest;
-pub use flat::answer::Element;
+pub use structs::answer::Element;
 pub use format::normalise::normalise;
 pub use file_listing::listing::list;
 pub use index::entry::LabelEntry;

@@ -15,9 +15,9 @@ use Rattle.finds.proofs.Data.{found}
 use Rattle.index.specs.Plan.{Counted, countedOf}
 use Rattle.index.proofs.Elems.{indexed}
 use Rattle.opening.proofs.Data.{filled}
-use Rattle.flat.specs.Written.{givenFlat, countedFlat, spotFlat}
-use Rattle.flat.proofs.written.Written as T
-use Rattle.flat.proofs.written.Written.Laws as T′
+use Rattle.structs.specs.Written.{givenFlat, countedFlat, spotFlat}
+use Rattle.structs.proofs.written.Written as T
+use Rattle.structs.proofs.written.Written.Laws as T′
 
 abbrev pub written : Elem
 written = record { type = T.the-type; laws = T′.the-laws; copies = T′.the-copy; owns-facts = T′.the-plain }

@@ -6,12 +6,12 @@ use lib.ListN.{length}
 use Rattle.elements.specs.Walk.{fresh}
 use Rattle.decoding.specs.Decoding as decoding
 use Rattle.finds.specs.Found.{insideDue, touchingDue, nearestDue}
-use Rattle.flat.specs.Written.{givenFlat, countedFlat, spotFlat}
+use Rattle.structs.specs.Written.{givenFlat, countedFlat, spotFlat}
 use Rattle.elements.specs.Given.{Fills}
 use Rattle.walk_theory.specs.Step as theory
 use Rattle.grammar.specs.Epl.{epl}
 use Rattle.walk.specs.Steps.{stateOf}
-use Rattle.flat.specs.Steps.{flatOf}
+use Rattle.structs.specs.Steps.{flatOf}
 use Rattle.file_listing.specs.Listing as listing
 use Rattle.format.specs.Normalise as normal
 use Rattle.strict.specs.Verdict.{checkedOf}

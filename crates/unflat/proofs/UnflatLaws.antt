@@ -20,8 +20,8 @@ use Rattle.elements.specs.declared.LineColor.the-variants.{Black, White, Xor}
 use Rattle.elements.specs.declared.QrErrorCorrectionLevel.{QrErrorCorrectionLevel}
 use Rattle.elements.specs.declared.QrErrorCorrectionLevel.the-variants.{H, Q, M, L}
 use Rattle.frame_bytes.specs.Frame as frame
-use Rattle.flat.specs.declared.answer.Element.{Element}
-use Rattle.flat.specs.Flat.{flatElement}
+use Rattle.structs.specs.declared.answer.Element.{Element}
+use Rattle.structs.specs.Flat.{flatElement}
 use Rattle.unflat.specs.Unflat.{isOne, orientationOf, colourOf, modeOf, levelOf, elementOf, Stands}
 
 -- numbers of 32 bits, compared by a call

@@ -38,8 +38,8 @@ use Rattle.elements.specs.declared.MaxicodeWithData.{MaxicodeWithData}
 use Rattle.elements.specs.declared.QrErrorCorrectionLevel.{QrErrorCorrectionLevel}
 use Rattle.elements.specs.declared.QrErrorCorrectionLevel.the-variants.{H, Q, M, L}
 use Rattle.elements.specs.declared.TextField.{TextField}
-use Rattle.flat.specs.declared.answer.Element.{Element}
-use Rattle.flat.specs.Flat.{flatElement}
+use Rattle.structs.specs.declared.answer.Element.{Element}
+use Rattle.structs.specs.Flat.{flatElement}
 use Rattle.spellings.specs.Fonts.{sameBits}
 
 -- ---- the element

@@ -42,8 +42,8 @@ use elements::Maxicode;
 use elements::MaxicodeWithData;
 use elements::QrErrorCorrectionLevel;
 use elements::TextField;
-use flat::answer::Element;
-use flat::element::flat_element;
+use structs::answer::Element;
+use structs::element::flat_element;
 use numbers::int::equal;
 
 // Quarter turns; any other number is none.

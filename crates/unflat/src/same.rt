@@ -3,7 +3,7 @@ ghost use mathlib.Core.Path.{_≡_};
 ghost use Rattle.spellings.specs.Fonts.{sameBits};
 ghost use Rattle.unflat.specs.Unflat.{sameFlags, samePlaces, sameCounts, sameModules, sameScales, sameSizes};
 ghost use Rattle.unflat.specs.Unflat.{sameData, sameElement};
-use flat::answer::Element;
+use structs::answer::Element;
 use numbers::float;
 use numbers::int::equal;
 

@@ -21,7 +21,7 @@ use Rattle.numbers.specs.declared.int.Checked.the-variants.{Fits, Outside}
 use Rattle.decimals.specs.Decimal.{DecimalLen, decimal}
 use Rattle.decimals.proofs.PutLaws.{put-as}
 use Rattle.writing.specs.Fill.{fieldAt, lines, numberAt, letterAt, letterOf, slot, SlotLen, fill, FillLen}
-use Rattle.flat.specs.declared.answer.Element.{Element}
+use Rattle.structs.specs.declared.answer.Element.{Element}
 
 -- a letter
 

@@ -20,7 +20,7 @@ use Rattle.elements.specs.declared.LineColor.{LineColor}
 use Rattle.elements.specs.declared.LineColor.the-variants.{Black, White, Xor}
 use Rattle.elements.specs.Plain.{plainOf}
 use Rattle.frame_bytes.specs.Frame as frame
-use Rattle.flat.specs.Flat.{flatElement}
+use Rattle.structs.specs.Flat.{flatElement}
 use Rattle.texts.specs.Font.{cellOf, fontOf}
 use Rattle.barcodes_2d.specs.Barcode2d.{aztecSize, isMode}
 use Rattle.barcodes_2d.specs.Barcode2d as two

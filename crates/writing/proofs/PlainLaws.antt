@@ -9,8 +9,8 @@ use borrow.Author.Tests.{lt-ltb, le-ltb}
 use Rattle.text.proofs.BoolLaws.{test}
 use Rattle.elements.specs.declared.LabelElement.{LabelElement}
 use Rattle.elements.specs.Given.{denied, longest}
-use Rattle.flat.specs.declared.answer.Element.{Element}
-use Rattle.flat.specs.Flat.{flatElement}
+use Rattle.structs.specs.declared.answer.Element.{Element}
+use Rattle.structs.specs.Flat.{flatElement}
 use Rattle.spellings.specs.Due.{elementDue}
 use Rattle.unflat.specs.Unflat.{elementOf, standing, Stands, Sized}
 use Rattle.unflat.proofs.UnflatLaws.{back}

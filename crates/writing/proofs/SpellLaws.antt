@@ -18,7 +18,7 @@ use Rattle.elements.specs.declared.TextField.{TextField}
 use Rattle.elements.specs.declared.Barcode128WithData.{Barcode128WithData}
 use Rattle.frame_bytes.specs.Frame.{part}
 use Rattle.frame_bytes.specs.Frame as frame
-use Rattle.flat.specs.Flat.{flatElement}
+use Rattle.structs.specs.Flat.{flatElement}
 use Rattle.decimals.specs.Decimal.{digits, decimal}
 use Rattle.spellings.specs.Quoted.{quotedLine, numbersThen}
 use Rattle.spellings.specs.Codes.{turns, flagged, textParams, typeOf, barParams}

@@ -13,10 +13,10 @@ use Rattle.elements.specs.declared.LabelElement.the-variants as element
 use Rattle.elements.specs.Given.{Due, text, denied, longest, Given, bytes, refused, Fills}
 use Rattle.text.specs.Wrote.{Put}
 use Rattle.elements.specs.declared.DataSpan.{DataSpan}
-use Rattle.flat.specs.declared.answer.Element.{Element}
+use Rattle.structs.specs.declared.answer.Element.{Element}
 use Rattle.elements.specs.Plain.{plainOf}
 use Rattle.frame_bytes.specs.Frame.{part}
-use Rattle.flat.specs.Flat.{flatElement}
+use Rattle.structs.specs.Flat.{flatElement}
 use Rattle.spellings.specs.Draws.{isLine}
 use Rattle.spellings.specs.Due.{elementDue}
 use Rattle.spellings.specs.Spelled.{bytesIn, spell}

@@ -11,7 +11,7 @@ use lib.Signed.{ltZ}
 use Rattle.text.specs.Ascii.{letter}
 use Rattle.numbers.specs.Int.{in32, eqZ}
 use Rattle.decimals.specs.Decimal.{decimal}
-use Rattle.flat.specs.declared.answer.Element.{Element}
+use Rattle.structs.specs.declared.answer.Element.{Element}
 
 abbrev pub fieldAt : Element → ℕ → ℤ
 fieldAt e i =

@@ -15,7 +15,7 @@ use Rattle.texts.specs.Font.{fontOf}
 use Rattle.barcodes.specs.Ratio.{ratioOf}
 use Rattle.spellings.specs.Fonts.{sameBits}
 use Rattle.spellings.specs.Writable.{lineText}
-use Rattle.flat.specs.declared.answer.Element.{Element}
+use Rattle.structs.specs.declared.answer.Element.{Element}
 use Rattle.writing.specs.Fill.{fieldAt}
 
 -- lo and more, hi at most unless that is 255

@@ -5,7 +5,7 @@ use mathlib.Core.Bool.{cond, _&&_}
 use mathlib.Core.List.{List}
 use Prim.Native.Nat.{ℕ}
 use Rattle.elements.specs.Given.{Due, text, denied, within, longest}
-use Rattle.flat.specs.declared.answer.Element.{Element}
+use Rattle.structs.specs.declared.answer.Element.{Element}
 use Rattle.spellings.specs.Spelled.{spell}
 use Rattle.spellings.specs.Writable.{writable}
 use Rattle.unflat.specs.Unflat.{elementOf, standing}

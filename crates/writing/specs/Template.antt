@@ -7,7 +7,7 @@ use lib.Dec.{eqb}
 use lib.IntN.{negsuc}
 use Rattle.numbers.specs.Int.{eqZ}
 use Rattle.elements.specs.Plain.{extent}
-use Rattle.flat.specs.declared.answer.Element.{Element}
+use Rattle.structs.specs.declared.answer.Element.{Element}
 use Rattle.spellings.specs.Draws.{isLine}
 
 unfoldable pub template : ℕ → List ℕ

@@ -9,7 +9,7 @@ use lib.ListN.{length}
 use Rattle.elements.specs.declared.DataSpan.{DataSpan}
 use Rattle.elements.specs.Given.{Due, text, denied, within, longest}
 use Rattle.frame_bytes.specs.Frame.{part}
-use Rattle.flat.specs.declared.answer.Element.{Element}
+use Rattle.structs.specs.declared.answer.Element.{Element}
 use Rattle.writing.specs.Fill.{fill}
 use Rattle.writing.specs.Fine.{isNumber, isLineAt, fineNumbers, fineBytes}
 use Rattle.writing.specs.Template.{template}

@@ -10,7 +10,7 @@ ghost use Rattle.writing.specs.Fill.{letterAt, letterOf, slot, SlotLen, 
 use bytes::put::put_bytes;
 use decimals::decimal::decimal_len;
 use decimals::decimal::put_decimal;
-use flat::answer::Element;
+use structs::answer::Element;
 use numbers::int::Checked;
 use numbers::int::bits;
 use numbers::int::checked_add;

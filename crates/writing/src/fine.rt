@@ -13,7 +13,7 @@ use crate::fill::field_at;
 use barcodes::ratio::bar_ratio;
 use bytes::scan::find;
 use bytes::utf8::decoded_len;
-use flat::answer::Element;
+use structs::answer::Element;
 use numbers::int;
 use numbers::int::Checked;
 use numbers::int::checked_add;

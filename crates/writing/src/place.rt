@@ -14,8 +14,8 @@ use crate::write::bytes_of;
 use crate::write::can_write;
 use crate::write::which_of;
 use elements::refusal::LONGEST;
-use flat::answer::Element;
-use flat::element::flat_element;
+use structs::answer::Element;
+use structs::element::flat_element;
 use unflat::element::element_of;
 use unflat::element::is_element;
 

@@ -5,7 +5,7 @@ use crate::write::write;
 use elements::filled::Filled;
 use elements::refusal::LONGEST;
 use elements::refusal::Refusal;
-use flat::answer::Element;
+use structs::answer::Element;
 use unflat::element::element_of;
 use unflat::element::is_element;
 

@@ -6,7 +6,7 @@ ghost use Rattle.writing.specs.Fill.{fill, FillLen};
 ghost use Rattle.writing.specs.Template.{template};
 use crate::fill::fill_len;
 use crate::fill::put_fill;
-use flat::answer::Element;
+use structs::answer::Element;
 
 // How many bytes a command is, by its template, of an element with len bytes of data.
 pub(crate) fn command_len(which: u8, e: Element, len: usize) -> usize

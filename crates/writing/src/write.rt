@@ -20,8 +20,8 @@ use elements::LabelElement;
 use elements::filled::Filled;
 use elements::refusal::LONGEST;
 use elements::refusal::Refusal;
-use flat::answer::Element;
-use flat::element::flat_element;
+use structs::answer::Element;
+use structs::element::flat_element;
 
 // The template of a box, of a diagonal, of PDF417.
 fn which_box(e: Element) -> u8

@@ -10,7 +10,7 @@ use lib.Signed.{mag, ltZ}
 use Rattle.text.proofs.BoolLaws.{test}
 use Rattle.elements.specs.declared.filled.Filled.{Filled}
 use Rattle.elements.specs.Given.{Fills, givenOf}
-use Rattle.flat.specs.declared.answer.Element.{Element}
+use Rattle.structs.specs.declared.answer.Element.{Element}
 use Rattle.dots.specs.declared.element.Element300.{Element300}
 use Rattle.decimals.specs.Decimal.{DecimalLen, decimal}
 use Rattle.decimals.specs.Joined.{closed}

@@ -1,7 +1,7 @@
 -- An element, at either resolution, as an element of a list that is lent; a tally as plain data.
 use Rattle.lists.proofs.Elem.{Elem}
-use Rattle.flat.proofs.answer.Element as P
-use Rattle.flat.proofs.answer.Element.Laws as P′
+use Rattle.structs.proofs.answer.Element as P
+use Rattle.structs.proofs.answer.Element.Laws as P′
 use Rattle.dots.proofs.element.Element300 as D
 use Rattle.dots.proofs.element.Element300.Laws as D′
 use Rattle.writing_label.proofs.tally.Tally as T

@@ -14,8 +14,8 @@ use Rattle.text.proofs.BoolLaws.{test, and-both}
 use Rattle.elements.specs.declared.LabelElement.{LabelElement}
 use Rattle.elements.specs.declared.PrintCounts.{PrintCounts}
 use Rattle.elements.specs.Given.{Due, text, denied, within, longest}
-use Rattle.flat.specs.declared.answer.Element.{Element}
-use Rattle.flat.specs.Flat.{flatElement}
+use Rattle.structs.specs.declared.answer.Element.{Element}
+use Rattle.structs.specs.Flat.{flatElement}
 use Rattle.spellings.specs.Due.{firstBad, noLabel, labelDue}
 use Rattle.spellings.specs.Spelled.{spellLabel}
 use Rattle.spellings.specs.Writable.{writable}

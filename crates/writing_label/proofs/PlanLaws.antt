@@ -20,7 +20,7 @@ use Rattle.elements.specs.declared.refusal.Refusal.the-variants.{InputTooLong, 
 use Rattle.elements.specs.declared.PrintCounts.{PrintCounts}
 use Rattle.elements.specs.Given.{Due, text, denied, longest, Given, bytes, refused, givenOf, Fills}
 use Rattle.elements.specs.Refusals.{numberOf}
-use Rattle.flat.specs.declared.answer.Element.{Element}
+use Rattle.structs.specs.declared.answer.Element.{Element}
 use Rattle.lists.specs.Passed.{Passes}
 use Rattle.spellings.specs.Due.{noLabel}
 use Rattle.spellings.specs.Spelled.{ended, commandFor, spell, spellAll, spellLabel}

@@ -7,7 +7,7 @@ use lib.Dec.{ltb}
 use lib.ListN.{length}
 use Rattle.elements.specs.declared.PrintCounts.{PrintCounts}
 use Rattle.elements.specs.Given.{Due, text, denied, within, longest}
-use Rattle.flat.specs.declared.answer.Element.{Element}
+use Rattle.structs.specs.declared.answer.Element.{Element}
 use Rattle.dots.specs.declared.element.Element300.{Element300}
 use Rattle.spellings.specs.Due.{noLabel}
 use Rattle.spellings.specs.Spelled.{spellLabel}

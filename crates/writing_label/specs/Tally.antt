@@ -5,7 +5,7 @@ use mathlib.Core.List.{List, [], _∷_, _++_}
 use Prim.Native.Nat.{ℕ, zero, suc, _+_, _-_, _≤_}
 use lib.Dec.{eqb, leb}
 use lib.ListN.{length}
-use Rattle.flat.specs.declared.answer.Element.{Element}
+use Rattle.structs.specs.declared.answer.Element.{Element}
 use Rattle.dots.specs.declared.element.Element300.{Element300}
 use Rattle.writing.specs.Place.{placedAt, textOf}
 use Rattle.writing.specs.Plain.{plainDue}

@@ -12,7 +12,7 @@ use crate::tally::Tally;
 use crate::turn::turn;
 use dots::element::Element300;
 use elements::filled::Filled;
-use flat::answer::Element;
+use structs::answer::Element;
 
 // The element as the printer's own dots say it.
 fn dots_of(e: Element300) -> Element

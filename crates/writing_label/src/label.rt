@@ -19,7 +19,7 @@ use decimals::decimal::put_decimal;
 use elements::filled::Filled;
 use elements::refusal::LONGEST;
 use elements::refusal::Refusal;
-use flat::answer::Element;
+use structs::answer::Element;
 use writing::place::is_room;
 
 // Before the first element, which stands behind `N` and its LF.

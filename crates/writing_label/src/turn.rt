@@ -2,7 +2,7 @@
 ghost use Rattle.writing_label.specs.Tally.{TurnOf};
 use crate::tally::Tally;
 use crate::tally::after;
-use flat::answer::Element;
+use structs::answer::Element;
 use writing::place::put_plain;
 
 // It is measured, or written behind the one before.

@@ -16,8 +16,8 @@ use Rattle.laddertick_c.proofs.Flat as flat
 use Rattle.finds.proofs.find.inside as work
 use Rattle.finds.proofs.find.inside.Symbol as work-def
 use Rattle.finds.proofs.find.inside.Met as work-thm
-use Rattle.flat.proofs.written.of_found.Symbol as flat-def
-use Rattle.flat.proofs.written.of_found.Met as flat-thm
+use Rattle.structs.proofs.written.of_found.Symbol as flat-def
+use Rattle.structs.proofs.written.of_found.Met as flat-thm
 use Rattle.laddertick_c.proofs.laddertick_inside.Key.{name}
 use Rattle.laddertick_c.proofs.laddertick_inside.Statement.{statement}
 use Rattle.laddertick_c.proofs.laddertick_inside.Code as code
@@ -28,4 +28,4 @@ laddertick-inside-spec 𝓤 H 𝓜 𝓖 𝓡 =
     flat.law 3 (work.signature .params) (work.ended .kept) finding (λ κs a e. Fills (now (e .1 .1 .1 .1 .0)) (now (a .1 .1 .1 .1 .0)) (insideDue (now (a .0)) (now (a .1 .0)) (a .1 .1 .0) (a .1 .1 .1 .0)))
     (sliceTy (tyRef (named 0) imm (tyInt w8)) ∷ sliceTy (ref entry 1 imm) ∷ tyInt w64 ∷ ty rectangle ∷ []) 2 usize work-def.name flat-def.name 𝓤 H 𝓜 𝓖 𝓡 code.env (λ κs. (bytes (named 0) (κs .0), (lent entry (named 1) (κs .1 .0), (number, (elem rectangle, (numbers-mut (named 2) (κs .1 .1 .0), tt)))))) (λ κs a. a .1 .1 .1 .1 .0) (λ κs a. refl) (λ κs a w. w) name (code.unfolded 𝓤 H 𝓜 𝓡)
     (cited 𝓤 H _ 𝓜 𝓡 code.env work-def.name work-def.routine code.calls-finds·find·inside (work-thm.met 𝓤 H 𝓜 𝓖 𝓡))
-    (cited 𝓤 H _ 𝓜 𝓡 code.env flat-def.name flat-def.routine code.calls-flat·written·of-found (flat-thm.met 𝓤 H 𝓜 𝓖 𝓡))
+    (cited 𝓤 H _ 𝓜 𝓡 code.env flat-def.name flat-def.routine code.calls-structs·written·of-found (flat-thm.met 𝓤 H 𝓜 𝓖 𝓡))

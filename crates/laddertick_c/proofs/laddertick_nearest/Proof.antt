@@ -27,7 +27,7 @@ use Rattle.lists.proofs.Steps.{frees, beside}
 use Rattle.lists.proofs.Walks.{walked, calls, calls-plain, typed}
 use Rattle.finds.specs.Found.{givenFound, spotOf, nearestDue}
 use Rattle.finds.proofs.Data.{point, found}
-use Rattle.flat.specs.Written.{givenFlat, spotFlat}
+use Rattle.structs.specs.Written.{givenFlat, spotFlat}
 use Rattle.laddertick_c.proofs.Data.{written, signed}
 use Rattle.laddertick_c.proofs.point as make
 use Rattle.laddertick_c.proofs.point.Symbol as make-def
@@ -35,9 +35,9 @@ use Rattle.laddertick_c.proofs.point.Met as make-thm
 use Rattle.finds.proofs.nearest.nearest as work
 use Rattle.finds.proofs.nearest.nearest.Symbol as work-def
 use Rattle.finds.proofs.nearest.nearest.Met as work-thm
-use Rattle.flat.proofs.written.of_found as flat
-use Rattle.flat.proofs.written.of_found.Symbol as flat-def
-use Rattle.flat.proofs.written.of_found.Met as flat-thm
+use Rattle.structs.proofs.written.of_found as flat
+use Rattle.structs.proofs.written.of_found.Symbol as flat-def
+use Rattle.structs.proofs.written.of_found.Met as flat-thm
 use Rattle.laddertick_c.proofs.laddertick_nearest as fn
 use Rattle.laddertick_c.proofs.laddertick_nearest.Key.{name}
 use Rattle.laddertick_c.proofs.laddertick_nearest.Statement.{statement}
@@ -71,7 +71,7 @@ laddertick-nearest-spec 𝓤 H 𝓜 𝓖 𝓡 =
     (and-then ! (load ! (from ! (stop !)) (look ! 13 refl)) (and-then ! (load ! (from ! (stop !)) (look ! 11 refl)) (and-then ! (load ! (from ! (stop !)) (look ! 9 refl)) (and-then ! (load ! (from ! (stop !)) (look ! 3 refl)) (no-more !))))) (λ u d ws done is.
     land ! (from ! (stop !)) (init ! 3 refl (typed 𝓤 H 𝓜 𝓖 (found .known) d u is .0)) $ drop ! $ move ! (1 ∷ []) $ drop ! $
     -- [the tokens; _7; …]
-    calls-plain ! fm flat.ended (flat.clauses 𝓤 H (𝓖 .A) (𝓜 .mem) (𝓡 .run)) (cited 𝓤 H _ 𝓜 𝓡 code.env flat-def.name flat-def.routine code.calls-flat·written·of-found (flat-thm.met 𝓤 H 𝓜 𝓖 𝓡))
+    calls-plain ! fm flat.ended (flat.clauses 𝓤 H (𝓖 .A) (𝓜 .mem) (𝓡 .run)) (cited 𝓤 H _ 𝓜 𝓡 code.env flat-def.name flat-def.routine code.calls-structs·written·of-found (flat-thm.met 𝓤 H 𝓜 𝓖 𝓡))
     ((tt, tt, tt, (d, tt), (u ∷ [], tt)), tt) (id⊢ 𝓤 _) (λ r. (givenFlat r ≡ givenFound d) × (spotFlat r ≡ spotOf d)) (λ r e. id⊢ 𝓤 _) (id⊢ 𝓤 _)
     (owns-make 𝓤 H (𝓖 .A) (found .row ∷ []) (Is (found .row), tt) (found .makes 𝓤 H (𝓖 .A), tt) (d, tt) (u ∷ [], tt) (is, tt)) (and-then ! (load ! (from ! (stop !)) (look ! 2 refl)) (no-more !)) (λ z r flat is₂.
     land ! (from ! (stop !)) (init ! 15 refl (typed 𝓤 H 𝓜 𝓖 (elem written) r z is₂ .0)) $ returns ! (look ! 15 refl) $

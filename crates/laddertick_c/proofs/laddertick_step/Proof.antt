@@ -1,6 +1,6 @@
 -- `laddertick_c::laddertick_step` meets its contract. Assumes nothing.
 use mathlib.Core.Path.{ap, _∙_}
-use Rattle.flat.specs.Steps.{flatOf}
+use Rattle.structs.specs.Steps.{flatOf}
 use borrow.Author.Needs.{needs}
 use Rattle.laddertick_c.proofs.laddertick_step.Statement.{statement}
 use Rattle.laddertick_c.proofs.laddertick_step.Tie as tie

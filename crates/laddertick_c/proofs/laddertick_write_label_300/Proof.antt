@@ -15,8 +15,8 @@ use Rattle.laddertick_c.proofs.Flat as flat
 use Rattle.writing_label.proofs.at_300.write_label_300 as work
 use Rattle.writing_label.proofs.at_300.write_label_300.Symbol as work-def
 use Rattle.writing_label.proofs.at_300.write_label_300.Met as work-thm
-use Rattle.flat.proofs.written.of_filled.Symbol as flat-def
-use Rattle.flat.proofs.written.of_filled.Met as flat-thm
+use Rattle.structs.proofs.written.of_filled.Symbol as flat-def
+use Rattle.structs.proofs.written.of_filled.Met as flat-thm
 use Rattle.laddertick_c.proofs.laddertick_write_label_300.Key.{name}
 use Rattle.laddertick_c.proofs.laddertick_write_label_300.Statement.{statement}
 use Rattle.laddertick_c.proofs.laddertick_write_label_300.Code as code
@@ -27,4 +27,4 @@ laddertick-write-label-300-spec 𝓤 H 𝓜 𝓖 𝓡 =
     flat.law 3 (work.signature .params) (work.ended .kept) filling (λ κs a e. Fills (now (e .1 .1 .1 .1 .0)) (now (a .1 .1 .1 .1 .0)) (plainLabelDue300 (now (a .0)) (now (a .1 .0)) (record { sets = a .1 .1 .0; copies = a .1 .1 .1 .0 })))
     (sliceTy (tyRef (named 0) imm (tyInt w8)) ∷ sliceTy (ref element-300 1 imm) ∷ tyInt w32 ∷ tyInt w32 ∷ []) 2 u8 work-def.name flat-def.name 𝓤 H 𝓜 𝓖 𝓡 code.env (λ κs. (bytes (named 0) (κs .0), (lent element-300 (named 1) (κs .1 .0), (signed, (signed, (bytes-mut (named 2) (κs .1 .1 .0), tt)))))) (λ κs a. a .1 .1 .1 .1 .0) (λ κs a. refl) (λ κs a w. w) name (code.unfolded 𝓤 H 𝓜 𝓡)
     (cited 𝓤 H _ 𝓜 𝓡 code.env work-def.name work-def.routine code.calls-writing-label·at-300·write-label-300 (work-thm.met 𝓤 H 𝓜 𝓖 𝓡))
-    (cited 𝓤 H _ 𝓜 𝓡 code.env flat-def.name flat-def.routine code.calls-flat·written·of-filled (flat-thm.met 𝓤 H 𝓜 𝓖 𝓡))
+    (cited 𝓤 H _ 𝓜 𝓡 code.env flat-def.name flat-def.routine code.calls-structs·written·of-filled (flat-thm.met 𝓤 H 𝓜 𝓖 𝓡))

@@ -1,7 +1,7 @@
 -- `converting::fault::number_for` meets its contract, by its tests. Assumes nothing.
 use mathlib.Core.Path.{_≡_, sym, ap, _∙_}
-use Rattle.flat.specs.declared.answer.Element.{Element}
-use Rattle.flat.specs.Flat.{flatElement}
+use Rattle.structs.specs.declared.answer.Element.{Element}
+use Rattle.structs.specs.Flat.{flatElement}
 use Rattle.dots.specs.Element.{outside}
 use borrow.Author.Tests.{ne-eqb}
 use borrow.Author.Needs.{needs}

@@ -4,7 +4,7 @@ use lib.Seq.{length-take-le}
 use Rattle.walk.specs.Steps.{answerOf}
 use Rattle.walk.specs.declared.answer.Answer.{Answer}
 use Rattle.walk.specs.declared.answer.Answer.the-variants.{Element, Clear, Print, End, Refused}
-use Rattle.flat.specs.declared.answer.Element as flat
+use Rattle.structs.specs.declared.answer.Element as flat
 use Rattle.dots.specs.declared.element.Element300.{Element300}
 use Rattle.dots.specs.Element.{orNothing, convertedElement}
 use Rattle.converting.specs.Walked.{onElement, nextOf}

@@ -1,7 +1,7 @@
 -- `writing::place::put_plain` meets its contract. Assumes nothing.
 use mathlib.Core.Path.{sym, ap, _∙_}
 use denote.Ref.{now}
-use Rattle.flat.specs.Flat.{flatElement}
+use Rattle.structs.specs.Flat.{flatElement}
 use Rattle.unflat.specs.Unflat.{elementOf}
 use Rattle.writing.specs.Place.{textOf}
 use Rattle.writing.proofs.WriteLaws.{flat-due}

@@ -1,0 +1,19 @@
+-- `structs::element::text_field` meets its contract. Assumes nothing.
+use borrow.Author.Needs.{needs}
+use Rattle.structs.proofs.element.text_field.Statement.{statement}
+use Rattle.structs.proofs.element.text_field.Tie as tie
+
+placed-requires : tie.Need-placed-requires
+placed-requires c κs = search needs
+
+rotation-requires : tie.Need-rotation-requires
+rotation-requires c κs = search needs
+
+flag-requires : tie.Need-flag-requires
+flag-requires c κs = search needs
+
+returns : tie.Need-returns
+returns c = rw (c .before .before .before .before .before .placed .ensures, c .before .before .before .before .rotation .ensures, c .before .before .before .flag .ensures) (search needs)
+
+pub text-field-spec : {M : Type 1} → statement M
+text-field-spec = tie.close (tie.spec placed-requires rotation-requires flag-requires returns)
