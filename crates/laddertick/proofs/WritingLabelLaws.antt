@@ -22,8 +22,8 @@ use Rattle.converting.specs.Promise.{Turned}
 use Rattle.spellings.specs.Due.{noLabel, labelDue}
 use Rattle.spellings.specs.Spelled.{spellLabel}
 use Rattle.spellings.specs.Writable.{writable}
-use Rattle.unflat.specs.Unflat.{elementOf, standing, Stands}
-use Rattle.unflat.proofs.StandingLaws.{standing-told}
+use Rattle.structs_read.specs.Unflat.{elementOf, standing, Stands}
+use Rattle.structs_read.proofs.StandingLaws.{standing-told}
 use Rattle.readback.specs.Fits.{Fits, AllFits, no-more-fits, and-fits}
 use Rattle.readback.specs.Written.{Reread}
 use Rattle.readback.proofs.ExactLaws.{yieldable-writable}

@@ -9,8 +9,8 @@ use Rattle.elements.specs.declared.PrintCounts.{PrintCounts}
 use Rattle.elements.specs.Given.{longest, denied, Due, needed, stored, fitting, givenOf}
 use Rattle.structs.specs.declared.answer.Element.{Element}
 use Rattle.structs.specs.Flat.{flatElement}
-use Rattle.unflat.specs.Unflat.{Stands}
-use Rattle.unflat.proofs.UnflatLaws.{told}
+use Rattle.structs_read.specs.Unflat.{Stands}
+use Rattle.structs_read.proofs.UnflatLaws.{told}
 use Rattle.writing.specs.Plain.{plainDue}
 use Rattle.writing.proofs.PlainLaws.{plain-flat, plain-long, plain-none}
 use Rattle.writing_label.specs.Label.{plainLabelDue, plainLabelDue300}

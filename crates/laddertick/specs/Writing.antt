@@ -14,7 +14,7 @@ use Rattle.structs.specs.declared.answer.Element.{Element}
 use Rattle.structs.specs.Flat.{flatElement}
 use Rattle.dots.specs.declared.element.Element300.{Element300}
 use Rattle.converting.specs.Promise.{withDots, Turned}
-use Rattle.unflat.specs.Unflat.{Stands, Sized}
+use Rattle.structs_read.specs.Unflat.{Stands, Sized}
 use Rattle.spellings.specs.Due.{labelDue}
 use Rattle.spellings.specs.Spelled.{spell, spellLabel}
 use Rattle.readback.specs.Exact.{Yieldable}

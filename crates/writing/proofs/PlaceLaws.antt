@@ -12,7 +12,7 @@ use borrow.Author.Tests.{leb-true}
 use Rattle.text.proofs.BoolLaws.{test, and-both}
 use Rattle.elements.specs.Given.{longest}
 use Rattle.structs.specs.declared.answer.Element.{Element}
-use Rattle.unflat.specs.Unflat.{standing}
+use Rattle.structs_read.specs.Unflat.{standing}
 use Rattle.writing.specs.Place.{roomAt, placedAt, textOf, Puts}
 use Rattle.writing.specs.Plain.{plainDue}
 

@@ -12,9 +12,9 @@ use Rattle.elements.specs.Given.{denied, longest}
 use Rattle.structs.specs.declared.answer.Element.{Element}
 use Rattle.structs.specs.Flat.{flatElement}
 use Rattle.spellings.specs.Due.{elementDue}
-use Rattle.unflat.specs.Unflat.{elementOf, standing, Stands, Sized}
-use Rattle.unflat.proofs.UnflatLaws.{back}
-use Rattle.unflat.proofs.StandingLaws.{standing-flat, standing-told}
+use Rattle.structs_read.specs.Unflat.{elementOf, standing, Stands, Sized}
+use Rattle.structs_read.proofs.UnflatLaws.{back}
+use Rattle.structs_read.proofs.StandingLaws.{standing-flat, standing-told}
 use Rattle.writing.specs.Plain.{plainDue}
 
 pub plain-long : (s : List ℕ) (x : Element) → longest < length s → plainDue s x ≡ denied 14 0

@@ -8,7 +8,7 @@ use Rattle.elements.specs.Given.{Due, text, denied, within, longest}
 use Rattle.structs.specs.declared.answer.Element.{Element}
 use Rattle.spellings.specs.Spelled.{spell}
 use Rattle.spellings.specs.Writable.{writable}
-use Rattle.unflat.specs.Unflat.{elementOf, standing}
+use Rattle.structs_read.specs.Unflat.{elementOf, standing}
 
 unfoldable pub plainDue : List ℕ → Element → Due
 plainDue s x =

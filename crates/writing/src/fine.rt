@@ -21,7 +21,7 @@ use numbers::int::equal;
 use numbers::int::min;
 use texts::fonts::Scaled;
 use texts::fonts::font_info;
-use unflat::same::same_bits;
+use structs_read::same::same_bits;
 
 // lo <= z, and z <= hi unless hi is 255.
 fn between(z: i32, lo: u8, hi: u8) -> bool

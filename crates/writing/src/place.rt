@@ -16,8 +16,8 @@ use crate::write::which_of;
 use elements::refusal::LONGEST;
 use structs::answer::Element;
 use structs::element::flat_element;
-use unflat::element::element_of;
-use unflat::element::is_element;
+use structs_read::element::element_of;
+use structs_read::element::is_element;
 
 // n bytes are to be stored, and end within len from at on.
 pub fn is_room(writing: bool, at: usize, n: usize, len: usize) -> bool

@@ -6,8 +6,8 @@ use elements::filled::Filled;
 use elements::refusal::LONGEST;
 use elements::refusal::Refusal;
 use structs::answer::Element;
-use unflat::element::element_of;
-use unflat::element::is_element;
+use structs_read::element::element_of;
+use structs_read::element::is_element;
 
 // One command and its LF, from the start of out. A struct that no element has is 23, as is an element that no line
 // yields.

@@ -19,9 +19,9 @@ use Rattle.structs.specs.Flat.{flatElement}
 use Rattle.spellings.specs.Due.{firstBad, noLabel, labelDue}
 use Rattle.spellings.specs.Spelled.{spellLabel}
 use Rattle.spellings.specs.Writable.{writable}
-use Rattle.unflat.specs.Unflat.{elementOf, standing, Sized}
-use Rattle.unflat.proofs.UnflatLaws.{back}
-use Rattle.unflat.proofs.StandingLaws.{standing-flat, standing-told}
+use Rattle.structs_read.specs.Unflat.{elementOf, standing, Sized}
+use Rattle.structs_read.proofs.UnflatLaws.{back}
+use Rattle.structs_read.proofs.StandingLaws.{standing-flat, standing-told}
 use Rattle.writing_label.specs.Label.{plainBad, plainLabelDue}
 
 -- a struct that is an element's, and that element is writable

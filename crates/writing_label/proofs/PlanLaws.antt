@@ -25,7 +25,7 @@ use Rattle.lists.specs.Passed.{Passes}
 use Rattle.spellings.specs.Due.{noLabel}
 use Rattle.spellings.specs.Spelled.{ended, commandFor, spell, spellAll, spellLabel}
 use Rattle.spellings.specs.Writable.{writable}
-use Rattle.unflat.specs.Unflat.{standing, elementOf}
+use Rattle.structs_read.specs.Unflat.{standing, elementOf}
 use Rattle.writing.specs.Place.{placedAt, textOf}
 use Rattle.writing.specs.Plain.{plainDue}
 use Rattle.writing_label.specs.declared.tally.Tally.{Tally}

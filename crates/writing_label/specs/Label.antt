@@ -12,7 +12,7 @@ use Rattle.dots.specs.declared.element.Element300.{Element300}
 use Rattle.spellings.specs.Due.{noLabel}
 use Rattle.spellings.specs.Spelled.{spellLabel}
 use Rattle.spellings.specs.Writable.{writable}
-use Rattle.unflat.specs.Unflat.{standing, elementOf}
+use Rattle.structs_read.specs.Unflat.{standing, elementOf}
 
 -- the number of the first struct that no element has, or whose element is not writable; or how many there are
 abbrev pub plainBad : List ℕ → List Element → ℕ

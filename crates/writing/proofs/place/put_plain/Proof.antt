@@ -2,7 +2,7 @@
 use mathlib.Core.Path.{sym, ap, _∙_}
 use denote.Ref.{now}
 use Rattle.structs.specs.Flat.{flatElement}
-use Rattle.unflat.specs.Unflat.{elementOf}
+use Rattle.structs_read.specs.Unflat.{elementOf}
 use Rattle.writing.specs.Place.{textOf}
 use Rattle.writing.proofs.WriteLaws.{flat-due}
 use Rattle.writing.proofs.PlainLaws.{plain-good}
