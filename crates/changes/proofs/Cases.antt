@@ -8,10 +8,10 @@ use Rattle.text.specs.Ascii.{ascii}
 use Rattle.text.specs.Blank.{trim}
 use Rattle.text.specs.Fields.{fields}
 use Rattle.elements.specs.declared.LineColor.the-variants.{Black}
-use Rattle.spelling.specs.declared.command.Command.{Command}
-use Rattle.spelling.specs.declared.command.Command.the-variants.{Clear, Reference, Line, Print, Other}
-use Rattle.spelling.specs.Command.{isReference, isPrint, commandOf}
-use Rattle.spelling.specs.Print.{isCounts}
+use Rattle.command_letters.specs.declared.command.Command.{Command}
+use Rattle.command_letters.specs.declared.command.Command.the-variants.{Clear, Reference, Line, Print, Other}
+use Rattle.command_letters.specs.Command.{isReference, isPrint, commandOf}
+use Rattle.command_letters.specs.Print.{isCounts}
 use Rattle.graphics.specs.Block.{opensGw, gwSpan}
 use Rattle.walk_theory.specs.Normal.{none-left, and-then}
 use Rattle.grammar.specs.Units.{line, notLf}

@@ -12,9 +12,9 @@ use Rattle.text.specs.Blank.{trim}
 use Rattle.text.proofs.BoolLaws.{test}
 use Rattle.elements.specs.declared.LabelPosition.{LabelPosition}
 use Rattle.elements.specs.Refusals.{numberOf}
-use Rattle.spelling.specs.declared.command.Command.{Command}
-use Rattle.spelling.specs.declared.command.Command.the-variants.{Clear, Reference, Data, Line, Diagonal, Box, Print, Other}
-use Rattle.spelling.specs.Command.{commandOf}
+use Rattle.command_letters.specs.declared.command.Command.{Command}
+use Rattle.command_letters.specs.declared.command.Command.the-variants.{Clear, Reference, Data, Line, Diagonal, Box, Print, Other}
+use Rattle.command_letters.specs.Command.{commandOf}
 use Rattle.walk_theory.specs.Language.{unit, keep, clear, yield, print, outside}
 use Rattle.walk_theory.specs.Change.{Plain}
 use Rattle.walk_theory.proofs.DivisionLaws.{same-unit}

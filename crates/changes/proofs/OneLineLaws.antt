@@ -7,7 +7,7 @@ use native.Mathlib.Omega.{arith}
 use lib.ListN.{length, length-append}
 use Rattle.elements.specs.declared.LabelElement.{LabelElement}
 use Rattle.elements.specs.declared.LabelPosition.{LabelPosition}
-use Rattle.spelling.specs.declared.command.Command.the-variants.{Clear, Print}
+use Rattle.command_letters.specs.declared.command.Command.the-variants.{Clear, Print}
 use Rattle.walk_theory.specs.Division.{Division, done, more}
 use Rattle.walk_theory.specs.Labels.{Label, Divides}
 use Rattle.walk_theory.specs.Normal.{each}

@@ -8,8 +8,8 @@ use lib.ListN.{length}
 use Rattle.text.specs.Blank.{trim}
 use Rattle.elements.specs.declared.LabelElement.{LabelElement}
 use Rattle.elements.specs.declared.LabelPosition.{LabelPosition}
-use Rattle.spelling.specs.declared.command.Command.{Command}
-use Rattle.spelling.specs.declared.command.Command.the-variants.{Clear, Reference, Print}
+use Rattle.command_letters.specs.declared.command.Command.{Command}
+use Rattle.command_letters.specs.declared.command.Command.the-variants.{Clear, Reference, Print}
 use Rattle.walk_theory.specs.Labels.{Label, flush}
 use Rattle.walk_theory.specs.Normal.{each, Solid}
 use Rattle.grammar.specs.Spelled.{Spells}

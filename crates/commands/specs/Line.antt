@@ -9,19 +9,19 @@ use Rattle.text.specs.Fields.{indexOf, before, quoted, withoutTrailingCommas}
 use Rattle.elements.specs.declared.DataSpan.{DataSpan}
 use Rattle.elements.specs.declared.LabelPosition.{LabelPosition}
 use Rattle.elements.specs.declared.PrintCounts.{PrintCounts}
-use Rattle.spelling.specs.declared.command.Command.{Command}
-use Rattle.spelling.specs.declared.command.Command.the-variants.{Clear, Reference, Data, Line, Diagonal, Box, Print}
-use Rattle.spelling.specs.declared.command.Command.the-variants.{Other}
-use Rattle.spelling.specs.declared.command.DataCommand.{DataCommand}
-use Rattle.spelling.specs.declared.command.DataCommand.the-variants.{Text, Barcode, Barcode2d}
+use Rattle.command_letters.specs.declared.command.Command.{Command}
+use Rattle.command_letters.specs.declared.command.Command.the-variants.{Clear, Reference, Data, Line, Diagonal, Box, Print}
+use Rattle.command_letters.specs.declared.command.Command.the-variants.{Other}
+use Rattle.command_letters.specs.declared.command.DataCommand.{DataCommand}
+use Rattle.command_letters.specs.declared.command.DataCommand.the-variants.{Text, Barcode, Barcode2d}
 use Rattle.parameters.specs.declared.reading.LineReading.{LineReading}
 use Rattle.parameters.specs.declared.reading.LineReading.the-variants as reading
 use Rattle.barcodes.specs.Barcode.{barcodeReading}
 use Rattle.barcodes_2d.specs.Barcode2d.{barcode2dReading}
 use Rattle.draws.specs.Draw.{lineReading, diagonalReading, boxReading}
-use Rattle.spelling.specs.Command.{commandOf}
-use Rattle.spelling.specs.Print.{countsOf}
-use Rattle.spelling.specs.Reference.{referenceOf}
+use Rattle.command_letters.specs.Command.{commandOf}
+use Rattle.command_letters.specs.Print.{countsOf}
+use Rattle.command_letters.specs.Reference.{referenceOf}
 use Rattle.texts.specs.Text.{textReading}
 
 -- "fields before the data, trailing commas dropped"; they begin behind the letter

@@ -20,11 +20,11 @@ use numbers::blank::trim_start;
 use parameters::params::tail;
 use parameters::params::tail_two;
 use parameters::reading::LineReading;
-use spelling::command::Command;
-use spelling::command::DataCommand;
-use spelling::command::command_of;
-use spelling::print::parse_epl_print;
-use spelling::reference::parse_epl_reference;
+use command_letters::command::Command;
+use command_letters::command::DataCommand;
+use command_letters::command::command_of;
+use command_letters::print::parse_epl_print;
+use command_letters::reference::parse_epl_reference;
 use texts::epl_text::parse_epl_text;
 
 // A command with its parameters, its data and the data's place.

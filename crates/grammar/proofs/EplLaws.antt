@@ -15,10 +15,10 @@ use Rattle.elements.specs.declared.LabelPosition.{LabelPosition}
 use Rattle.elements.specs.Spans.{AllIn, In, spans}
 use Rattle.parameters.specs.declared.reading.LineReading.{LineReading}
 use Rattle.parameters.specs.declared.reading.LineReading.the-variants as reading
-use Rattle.spelling.specs.declared.command.Command.{Command}
-use Rattle.spelling.specs.declared.command.Command.the-variants.{Clear, Reference, Data, Line, Diagonal, Box, Print, Other}
-use Rattle.spelling.specs.declared.command.DataCommand.{DataCommand}
-use Rattle.spelling.specs.Command.{commandOf}
+use Rattle.command_letters.specs.declared.command.Command.{Command}
+use Rattle.command_letters.specs.declared.command.Command.the-variants.{Clear, Reference, Data, Line, Diagonal, Box, Print, Other}
+use Rattle.command_letters.specs.declared.command.DataCommand.{DataCommand}
+use Rattle.command_letters.specs.Command.{commandOf}
 use Rattle.commands.specs.Line.{quotedReading, commandReading, leadOf, readLine}
 use Rattle.commands.proofs.LineLaws.{lead-le}
 use Rattle.walk_theory.specs.Language.{yield}

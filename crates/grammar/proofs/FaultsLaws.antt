@@ -14,7 +14,7 @@ use borrow.Author.Tests.{eqb-true, ltb-true, lt-ltb, le-ltb, not-false}
 use Rattle.text.specs.Blank.{dropWhile, front, trim}
 use Rattle.text.proofs.BoolLaws.{test}
 use Rattle.elements.specs.declared.refusal.Refusal.the-variants as refusal
-use Rattle.spelling.specs.Command.{isReference, isPrint, commandOf}
+use Rattle.command_letters.specs.Command.{isReference, isPrint, commandOf}
 use Rattle.graphics.specs.declared.gw_span.Graphic.the-variants as graphic
 use Rattle.graphics.specs.declared.gw_span.GwNumbers.{GwNumbers}
 use Rattle.graphics.specs.Block.{isLineBlank, opensGw, closes, afterHeaderField, headerNumber, fourClosed, payloadOf, gwNumbers, total, measured, headerOf, gwSpan}

@@ -16,11 +16,11 @@ use Rattle.text.specs.Table.{anyOf}
 use Rattle.text.specs.Utf8.{decode}
 use Rattle.text.proofs.BoolLaws.{test}
 use Rattle.text.proofs.FieldsLaws.{same-refl, same-true}
-use Rattle.spelling.specs.declared.command.Command.{Command}
-use Rattle.spelling.specs.declared.command.Command.the-variants.{Clear, Reference, Data, Line, Diagonal, Box, Print, Other}
-use Rattle.spelling.specs.declared.command.DataCommand.{DataCommand}
-use Rattle.spelling.specs.declared.command.DataCommand.the-variants.{Text, Barcode, Barcode2d}
-use Rattle.spelling.specs.Command.{commandOf}
+use Rattle.command_letters.specs.declared.command.Command.{Command}
+use Rattle.command_letters.specs.declared.command.Command.the-variants.{Clear, Reference, Data, Line, Diagonal, Box, Print, Other}
+use Rattle.command_letters.specs.declared.command.DataCommand.{DataCommand}
+use Rattle.command_letters.specs.declared.command.DataCommand.the-variants.{Text, Barcode, Barcode2d}
+use Rattle.command_letters.specs.Command.{commandOf}
 use Rattle.barcodes.specs.Barcode.{types}
 use Rattle.barcodes_2d.specs.Barcode2d.{types2d}
 use Rattle.commands.specs.Line.{paramsOf}

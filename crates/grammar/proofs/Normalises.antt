@@ -12,7 +12,7 @@ use Rattle.elements.specs.Spans.{In, shifted}
 use Rattle.parameters.specs.declared.reading.LineReading.{LineReading}
 use Rattle.parameters.specs.declared.reading.LineReading.the-variants as reading
 use Rattle.parameters.specs.Reading.{laterReading}
-use Rattle.spelling.specs.Command.{isReference, isPrint, commandOf}
+use Rattle.command_letters.specs.Command.{isReference, isPrint, commandOf}
 use Rattle.commands.specs.Line.{leadOf, readLine}
 use Rattle.graphics.specs.Block.{opensGw}
 use Rattle.walk_theory.specs.Labels.{Run, goes, andThen, effect, run}

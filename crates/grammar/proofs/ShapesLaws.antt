@@ -46,11 +46,11 @@ use Rattle.barcodes.proofs.BarcodeLaws.{listed-is}
 use Rattle.barcodes_2d.specs.declared.barcode_2d.Symbology2d.{Symbology2d}
 use Rattle.barcodes_2d.specs.declared.barcode_2d.Symbology2d.the-variants as two
 use Rattle.barcodes_2d.specs.Barcode2d.{symbologies2d, symbologyOf, aztecReading, datamatrixReading, maxicodeReading, pdf417Reading, qrReading, barcode2dAt, barcode2dReading}
-use Rattle.spelling.specs.declared.command.Command.{Command}
-use Rattle.spelling.specs.declared.command.Command.the-variants.{Clear, Reference, Data, Line, Diagonal, Box, Print, Other}
-use Rattle.spelling.specs.declared.command.DataCommand.{DataCommand}
-use Rattle.spelling.specs.declared.command.DataCommand.the-variants as command
-use Rattle.spelling.specs.Command.{commandOf}
+use Rattle.command_letters.specs.declared.command.Command.{Command}
+use Rattle.command_letters.specs.declared.command.Command.the-variants.{Clear, Reference, Data, Line, Diagonal, Box, Print, Other}
+use Rattle.command_letters.specs.declared.command.DataCommand.{DataCommand}
+use Rattle.command_letters.specs.declared.command.DataCommand.the-variants as command
+use Rattle.command_letters.specs.Command.{commandOf}
 use Rattle.commands.specs.Line.{paramsOf, withData, spanOf, quotedReading, commandReading, leadOf, readLine}
 use Rattle.walk_theory.specs.Language.{yield}
 use Rattle.grammar.specs.Units.{EplUnit, block, line, last, number, Stands}

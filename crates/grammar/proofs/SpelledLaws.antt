@@ -11,12 +11,12 @@ use lib.ListN.{length}
 use borrow.Author.Tests.{eqb-true, eqb-false, lt-ltb}
 use Rattle.text.specs.Class.{isDigit, allDigits}
 use Rattle.text.proofs.BoolLaws.{test, and-both, within-true, within-low, within-high}
-use Rattle.spelling.specs.declared.command.Command.{Command}
-use Rattle.spelling.specs.declared.command.Command.the-variants.{Clear, Reference, Data, Line, Diagonal, Box, Print, Other}
-use Rattle.spelling.specs.Command.{isReference, isPrint, commandOf}
-use Rattle.spelling.specs.Print.{isCount, isCounts}
-use Rattle.spelling.proofs.CommandLaws.{reads-other}
-use Rattle.spelling.proofs.PrintLaws.{counts-digits, counts-two, counts-cases}
+use Rattle.command_letters.specs.declared.command.Command.{Command}
+use Rattle.command_letters.specs.declared.command.Command.the-variants.{Clear, Reference, Data, Line, Diagonal, Box, Print, Other}
+use Rattle.command_letters.specs.Command.{isReference, isPrint, commandOf}
+use Rattle.command_letters.specs.Print.{isCount, isCounts}
+use Rattle.command_letters.proofs.CommandLaws.{reads-other}
+use Rattle.command_letters.proofs.PrintLaws.{counts-digits, counts-two, counts-cases}
 use Rattle.grammar.specs.Spelled.{Digit, Digits, Letters, is-n, is-r, is-a, is-b, is-2d, is-lo, is-lw, is-le, is-ls, is-x, is-p, is-p-p, Spells, by-letters, else}
 
 pub digit-true : (b : ℕ) → Digit b → isDigit b ≡ true

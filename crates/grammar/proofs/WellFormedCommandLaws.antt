@@ -45,9 +45,9 @@ use Rattle.barcodes.proofs.BarcodeLaws.{listed-is}
 use Rattle.barcodes_2d.specs.declared.barcode_2d.Symbology2d.{Symbology2d}
 use Rattle.barcodes_2d.specs.declared.barcode_2d.Symbology2d.the-variants as two
 use Rattle.barcodes_2d.specs.Barcode2d.{symbologyOf, aztecReading, datamatrixReading, maxicodeReading, pdf417Reading, qrReading, barcode2dAt, barcode2dReading}
-use Rattle.spelling.specs.declared.command.Command.the-variants.{Data}
-use Rattle.spelling.specs.declared.command.DataCommand.{DataCommand}
-use Rattle.spelling.specs.declared.command.DataCommand.the-variants as command
+use Rattle.command_letters.specs.declared.command.Command.the-variants.{Data}
+use Rattle.command_letters.specs.declared.command.DataCommand.{DataCommand}
+use Rattle.command_letters.specs.declared.command.DataCommand.the-variants as command
 use Rattle.commands.specs.Line.{withData}
 use Rattle.grammar.specs.Units.{number}
 use Rattle.grammar.specs.WellFormed.{atLeast, dataCounted, dataTyped, dataSized, typeFault, countFault}

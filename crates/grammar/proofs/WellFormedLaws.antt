@@ -19,9 +19,9 @@ use Rattle.elements.specs.declared.refusal.Refusal.the-variants as refusal
 use Rattle.elements.specs.Refusals.{numberOf}
 use Rattle.elements.specs.Spans.{spans}
 use Rattle.parameters.specs.declared.reading.LineReading.the-variants as reading
-use Rattle.spelling.specs.declared.command.Command.{Command}
-use Rattle.spelling.specs.declared.command.Command.the-variants.{Clear, Reference, Data, Line, Diagonal, Box, Print, Other}
-use Rattle.spelling.specs.Command.{commandOf}
+use Rattle.command_letters.specs.declared.command.Command.{Command}
+use Rattle.command_letters.specs.declared.command.Command.the-variants.{Clear, Reference, Data, Line, Diagonal, Box, Print, Other}
+use Rattle.command_letters.specs.Command.{commandOf}
 use Rattle.commands.specs.Line.{paramsOf, spanOf, quotedReading, commandReading, leadOf, readLine}
 use Rattle.grammar.specs.WellFormed.{wellFormedAs, wellFormed, faultAs, faultOf}
 use Rattle.grammar.proofs.WellFormedCommandLaws.{Meets, meets-line, meets-diagonal, meets-box, meets-data}

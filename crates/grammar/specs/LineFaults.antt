@@ -10,9 +10,9 @@ use Rattle.text.specs.Blank.{trim}
 use Rattle.text.specs.Fields.{fields, field, quoted}
 use Rattle.text.specs.Utf8.{decode}
 use Rattle.elements.specs.declared.LineColor.{LineColor}
-use Rattle.spelling.specs.declared.command.Command.the-variants.{Data, Line, Diagonal, Box}
-use Rattle.spelling.specs.declared.command.DataCommand.{DataCommand}
-use Rattle.spelling.specs.declared.command.DataCommand.the-variants.{Text, Barcode, Barcode2d}
+use Rattle.command_letters.specs.declared.command.Command.the-variants.{Data, Line, Diagonal, Box}
+use Rattle.command_letters.specs.declared.command.DataCommand.{DataCommand}
+use Rattle.command_letters.specs.declared.command.DataCommand.the-variants.{Text, Barcode, Barcode2d}
 use Rattle.commands.specs.Line.{paramsOf}
 use Rattle.grammar.specs.Spelled.{Spells}
 

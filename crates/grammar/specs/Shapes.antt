@@ -10,12 +10,12 @@ use Rattle.text.specs.Table.{Row, row, meaning}
 use Rattle.elements.specs.declared.LabelElement.{LabelElement}
 use Rattle.elements.specs.declared.LabelPosition.{LabelPosition}
 use Rattle.elements.specs.Plain.{plainOf}
-use Rattle.spelling.specs.declared.command.Command.{Command}
-use Rattle.spelling.specs.declared.command.Command.the-variants.{Clear, Reference, Data, Line, Diagonal, Box, Print}
-use Rattle.spelling.specs.declared.command.Command.the-variants.{Other}
-use Rattle.spelling.specs.declared.command.DataCommand.{DataCommand}
-use Rattle.spelling.specs.declared.command.DataCommand.the-variants.{Text, Barcode, Barcode2d}
-use Rattle.spelling.specs.Command.{commandOf}
+use Rattle.command_letters.specs.declared.command.Command.{Command}
+use Rattle.command_letters.specs.declared.command.Command.the-variants.{Clear, Reference, Data, Line, Diagonal, Box, Print}
+use Rattle.command_letters.specs.declared.command.Command.the-variants.{Other}
+use Rattle.command_letters.specs.declared.command.DataCommand.{DataCommand}
+use Rattle.command_letters.specs.declared.command.DataCommand.the-variants.{Text, Barcode, Barcode2d}
+use Rattle.command_letters.specs.Command.{commandOf}
 use Rattle.commands.specs.Line.{paramsOf}
 use Rattle.grammar.specs.Units.{EplUnit, block, line, last}
 use Rattle.grammar.specs.Ranges.{sumsOf}

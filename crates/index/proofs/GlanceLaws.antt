@@ -18,7 +18,7 @@ use Rattle.text.proofs.BlankSteps.{size-plain}
 use Rattle.text.proofs.BlankTrimLaws.{trim-end-is}
 use Rattle.elements.specs.declared.LabelElement.{LabelElement}
 use Rattle.elements.specs.declared.LabelPosition.{LabelPosition}
-use Rattle.spelling.specs.Command.{isReference, isPrint, commandOf}
+use Rattle.command_letters.specs.Command.{isReference, isPrint, commandOf}
 use Rattle.graphics.proofs.BlockLaws.{opens-other}
 use Rattle.walk_theory.specs.Language.{First, none, bad, unit, keep, clear, yield, print, outside}
 use Rattle.walk_theory.specs.Reading.{fault, passes, gives, did, reading, readingOf}

@@ -6,7 +6,7 @@ use Prim.Native.Nat.{ℕ}
 use Rattle.frame_bytes.specs.Frame.{frameOf}
 use Rattle.frame_bytes.proofs.FrameLaws.{frame-local}
 use Rattle.graphics.specs.Block.{opensGw, gwSpan}
-use Rattle.spelling.specs.Command.{commandOf}
+use Rattle.command_letters.specs.Command.{commandOf}
 use Rattle.commands.specs.Line.{readLine}
 use Rattle.walk_theory.specs.Claims.{Local}
 use Rattle.walk_theory.specs.Join.{Clearing, Joins}

@@ -22,7 +22,7 @@ use Rattle.parameters.specs.declared.reading.LineReading.{LineReading}
 use Rattle.parameters.specs.declared.reading.LineReading.the-variants as reading
 use Rattle.parameters.specs.Position.{placed, yields}
 use Rattle.draws.specs.Draw.{lineFields, lineElement, lineReading}
-use Rattle.spelling.specs.Command.{isReference, isPrint, commandOf}
+use Rattle.command_letters.specs.Command.{isReference, isPrint, commandOf}
 use Rattle.commands.specs.Line.{readLine}
 use Rattle.frame_bytes.specs.Frame.{be32, head, extentBytes, fieldBytes, frameOf}
 use Rattle.laddertick.specs.Coloured.{Coloured, alike, drawn}

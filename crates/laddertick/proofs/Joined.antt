@@ -9,9 +9,9 @@ use Rattle.texts.specs.Font.{cellOf, fontOf}
 use Rattle.texts.specs.Text.{textFields, textElement, textReading}
 use Rattle.draws.specs.Draw.{lineFields, lineElement, lineReading, cornersAt, sizedAt, drawnAt, diagonalReading, boxReading}
 use Rattle.graphics.specs.Block.{opensGw, closes, afterHeaderField, headerNumber, fourClosed, payloadOf, gwNumbers, measured, gwSpan}
-use Rattle.spelling.specs.Command.{isReference, isPrint, commandOf}
-use Rattle.spelling.specs.Print.{isCounts, countsOf}
-use Rattle.spelling.specs.Reference.{referenceOf}
+use Rattle.command_letters.specs.Command.{isReference, isPrint, commandOf}
+use Rattle.command_letters.specs.Print.{isCounts, countsOf}
+use Rattle.command_letters.specs.Reference.{referenceOf}
 use Rattle.commands.specs.Line.{paramsOf, quotedReading, readLine}
 use Rattle.walk_theory.specs.Step.{handing, answer, step}
 use Rattle.walk_theory.specs.Trace.{trace}

@@ -18,9 +18,9 @@ use Rattle.barcodes_2d.specs.Barcode2d.{aztecSize, aztecOf, datamatrixOf, modeO
 use Rattle.barcodes_2d.specs.Maxicode.{headerAt, headerPlace, postal, autoMode}
 use Rattle.barcodes_2d.specs.Options.{optionsOf, lastCount, lastNumber, lastClamped}
 use Rattle.graphics.specs.Block.{opensGw, closes, afterHeaderField, headerNumber, fourClosed, payloadOf, gwNumbers, measured, gwSpan}
-use Rattle.spelling.specs.Command.{isReference, isPrint, commandOf}
-use Rattle.spelling.specs.Print.{isCounts, countsOf}
-use Rattle.spelling.specs.Reference.{referenceOf}
+use Rattle.command_letters.specs.Command.{isReference, isPrint, commandOf}
+use Rattle.command_letters.specs.Print.{isCounts, countsOf}
+use Rattle.command_letters.specs.Reference.{referenceOf}
 use Rattle.commands.specs.Line.{paramsOf, quotedReading, readLine}
 use Rattle.walk_theory.specs.Labels.{flush}
 use Rattle.walk_theory.specs.Step.{handing, answer, step}

@@ -27,8 +27,8 @@ use Rattle.elements.specs.Spans.{In}
 use Rattle.elements.specs.Walk.{fresh}
 use Rattle.frame_bytes.specs.Frame.{head, frameOf}
 use Rattle.parameters.specs.declared.reading.LineReading.the-variants as reading
-use Rattle.spelling.specs.declared.command.Command.{Command}
-use Rattle.spelling.specs.Command.{commandOf}
+use Rattle.command_letters.specs.declared.command.Command.{Command}
+use Rattle.command_letters.specs.Command.{commandOf}
 use Rattle.commands.specs.Line.{readLine}
 use Rattle.walk_theory.specs.Language.{bad, yield, outside}
 use Rattle.walk_theory.specs.Division.{Division}
@@ -94,7 +94,7 @@ use Rattle.laddertick.specs.Profiled as profiled
 use Rattle.laddertick.specs.Indexed as tabled
 use Rattle.laddertick.specs.Joined as joined
 use Rattle.laddertick.specs.Changed as changed
-use Rattle.spelling.specs.declared.command.Command.the-variants.{Clear, Print}
+use Rattle.command_letters.specs.declared.command.Command.the-variants.{Clear, Print}
 use Rattle.walk_theory.specs.Labels.{flush}
 use Rattle.grammar.specs.Epl.{EplPrint}
 use Rattle.changes.specs.OneLine.{Ending, unitOf, Replaced, Quiet, Is, Between, Next, saysOf, atHand, InLabel, Counted}

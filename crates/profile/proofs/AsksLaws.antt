@@ -14,11 +14,11 @@ use Rattle.text.specs.Ascii.{letter}
 use Rattle.text.specs.Blank.{front, trim}
 use Rattle.text.specs.Fields.{indexOf, before, after}
 use Rattle.text.proofs.BoolLaws.{test}
-use Rattle.spelling.specs.declared.command.Command.{Command}
-use Rattle.spelling.specs.declared.command.Command.the-variants.{Clear, Reference, Data, Line, Diagonal, Box, Print, Other}
-use Rattle.spelling.specs.declared.command.DataCommand.{DataCommand}
-use Rattle.spelling.specs.declared.command.DataCommand.the-variants.{Text, Barcode, Barcode2d}
-use Rattle.spelling.specs.Command.{commandOf}
+use Rattle.command_letters.specs.declared.command.Command.{Command}
+use Rattle.command_letters.specs.declared.command.Command.the-variants.{Clear, Reference, Data, Line, Diagonal, Box, Print, Other}
+use Rattle.command_letters.specs.declared.command.DataCommand.{DataCommand}
+use Rattle.command_letters.specs.declared.command.DataCommand.the-variants.{Text, Barcode, Barcode2d}
+use Rattle.command_letters.specs.Command.{commandOf}
 use Rattle.graphics.specs.declared.gw_span.Graphic.{Graphic}
 use Rattle.graphics.specs.declared.gw_span.Graphic.the-variants as graphic
 use Rattle.graphics.specs.declared.gw_span.GwNumbers.{GwNumbers}

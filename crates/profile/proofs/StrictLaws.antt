@@ -11,7 +11,7 @@ use lib.ListN.{length, drop}
 use lib.Seq.{drop-append-seam, drop-drop}
 use Rattle.elements.specs.declared.LabelElement.{LabelElement}
 use Rattle.elements.specs.declared.LabelPosition.{LabelPosition}
-use Rattle.spelling.specs.Command.{isReference, isPrint, commandOf}
+use Rattle.command_letters.specs.Command.{isReference, isPrint, commandOf}
 use Rattle.graphics.specs.Block.{opensGw, gwSpan}
 use Rattle.walk_theory.specs.Language.{First, bad}
 use Rattle.walk_theory.specs.Division.{Division, done, more, Reads}

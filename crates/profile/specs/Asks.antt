@@ -12,12 +12,12 @@ use Rattle.text.specs.Blank.{trim}
 use Rattle.text.specs.Fields.{field}
 use Rattle.elements.specs.declared.LabelPosition.{LabelPosition}
 use Rattle.numbers.specs.declared.number.Number.the-variants.{Value, Empty, NoNumber, Beyond}
-use Rattle.spelling.specs.declared.command.Command.{Command}
-use Rattle.spelling.specs.declared.command.Command.the-variants.{Clear, Reference, Data, Line, Diagonal, Box, Print}
-use Rattle.spelling.specs.declared.command.Command.the-variants.{Other}
-use Rattle.spelling.specs.declared.command.DataCommand.{DataCommand}
-use Rattle.spelling.specs.declared.command.DataCommand.the-variants.{Text, Barcode, Barcode2d}
-use Rattle.spelling.specs.Command.{commandOf}
+use Rattle.command_letters.specs.declared.command.Command.{Command}
+use Rattle.command_letters.specs.declared.command.Command.the-variants.{Clear, Reference, Data, Line, Diagonal, Box, Print}
+use Rattle.command_letters.specs.declared.command.Command.the-variants.{Other}
+use Rattle.command_letters.specs.declared.command.DataCommand.{DataCommand}
+use Rattle.command_letters.specs.declared.command.DataCommand.the-variants.{Text, Barcode, Barcode2d}
+use Rattle.command_letters.specs.Command.{commandOf}
 use Rattle.commands.specs.Line.{paramsOf}
 use Rattle.grammar.specs.LineFaults.{LineFault}
 use Rattle.grammar.specs.Units.{Header, EplUnit, block, line, last, bytes, number, Opens, Stands}

@@ -22,11 +22,11 @@ use Rattle.profile.specs.declared.rule.Held.{Held}
 use Rattle.profile.specs.declared.rule.Held.the-variants as held
 use Rattle.profile.specs.declared.unit.Looked.{Looked}
 use Rattle.profile.specs.declared.unit.Looked.the-variants.{Passed, Objected}
-use Rattle.spelling.specs.declared.command.Command.{Command}
-use Rattle.spelling.specs.declared.command.Command.the-variants as command
-use Rattle.spelling.specs.declared.command.DataCommand.{DataCommand}
-use Rattle.spelling.specs.declared.command.DataCommand.the-variants as with-data
-use Rattle.spelling.specs.Command.{commandOf}
+use Rattle.command_letters.specs.declared.command.Command.{Command}
+use Rattle.command_letters.specs.declared.command.Command.the-variants as command
+use Rattle.command_letters.specs.declared.command.DataCommand.{DataCommand}
+use Rattle.command_letters.specs.declared.command.DataCommand.the-variants as with-data
+use Rattle.command_letters.specs.Command.{commandOf}
 use Rattle.graphics.specs.declared.gw_span.Graphic.{Graphic}
 use Rattle.graphics.specs.declared.gw_span.Graphic.the-variants as graphic
 use Rattle.graphics.specs.Block.{headerOf, gwSpan}

@@ -3,7 +3,7 @@
 ghost use mathlib.Core.Path.{_≡_};
 ghost use mathlib.Core.List.{[], _∷_};
 ghost use Rattle.text.specs.Ascii.{spelt};
-ghost use Rattle.spelling.specs.Command.{commandOf};
+ghost use Rattle.command_letters.specs.Command.{commandOf};
 ghost use Rattle.grammar.specs.WellFormed.{atLeast};
 ghost use Rattle.grammar.specs.Size.{unitSize};
 ghost use Rattle.profile.specs.Profile.{ifCounted, lineRules, cornerRules, referenceObjection, dataObjection, quotedObjection, commandObjection, lineObjection, objection, lookedAs};
@@ -25,9 +25,9 @@ use numbers::blank::trim;
 use parameters::params::has_fields;
 use parameters::params::tail;
 use parameters::params::tail_two;
-use spelling::command::DataCommand;
-use spelling::command::byte_at;
-use spelling::command::is_epl_reference_point;
+use command_letters::command::DataCommand;
+use command_letters::command::byte_at;
+use command_letters::command::is_epl_reference_point;
 
 // `R`: x, then all after the first comma as y, if there is a comma.
 fn reference_objection(s: &[u8]) -> Objection

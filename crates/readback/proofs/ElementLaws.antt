@@ -21,8 +21,8 @@ use Rattle.elements.specs.Plain.{extent, bars, plainOf}
 use Rattle.elements.specs.Spans.{In}
 use Rattle.frame_bytes.specs.Frame.{part}
 use Rattle.graphics.specs.Block.{opensGw}
-use Rattle.spelling.specs.Command.{isReference, isPrint, commandOf}
-use Rattle.spelling.specs.declared.command.DataCommand.the-variants.{Text}
+use Rattle.command_letters.specs.Command.{isReference, isPrint, commandOf}
+use Rattle.command_letters.specs.declared.command.DataCommand.the-variants.{Text}
 use Rattle.barcodes.specs.declared.barcode.Symbology.the-variants.{Code128, Interleaved, Code39, Ean13, Ean8, UpcA, UpcE}
 use Rattle.barcodes.specs.Barcode.{code128, interleaved, code39, ean13, ean8, upcA, upcE}
 use Rattle.barcodes_2d.specs.declared.barcode_2d.Symbology2d.the-variants as two

@@ -30,9 +30,9 @@ use Rattle.elements.specs.Spans.{onSpan, spans, AllIn, In, spansIn}
 use Rattle.frame_bytes.specs.Frame.{part}
 use Rattle.frame_bytes.proofs.FramePartLaws.{part-local}
 use Rattle.parameters.specs.declared.reading.LineReading.the-variants as reading
-use Rattle.spelling.specs.declared.command.Command.{Command}
-use Rattle.spelling.specs.declared.command.Command.the-variants.{Clear, Reference, Data, Line, Diagonal, Box, Print, Other}
-use Rattle.spelling.specs.Command.{commandOf}
+use Rattle.command_letters.specs.declared.command.Command.{Command}
+use Rattle.command_letters.specs.declared.command.Command.the-variants.{Clear, Reference, Data, Line, Diagonal, Box, Print, Other}
+use Rattle.command_letters.specs.Command.{commandOf}
 use Rattle.commands.specs.Line.{spanOf, commandReading, leadOf, readLine}
 use Rattle.commands.proofs.LineLaws.{lead-le}
 use Rattle.walk_theory.specs.Language.{yield}

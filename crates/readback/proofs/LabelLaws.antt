@@ -21,9 +21,9 @@ use Rattle.elements.specs.Given.{longest}
 use Rattle.elements.specs.Spans.{In, shifted}
 use Rattle.frame_bytes.proofs.FramePartLaws.{part-local}
 use Rattle.graphics.specs.Block.{opensGw}
-use Rattle.spelling.specs.declared.command.Command.the-variants.{Print}
-use Rattle.spelling.specs.Command.{isReference, isPrint, commandOf}
-use Rattle.spelling.specs.Print.{isCounts, countsOf}
+use Rattle.command_letters.specs.declared.command.Command.the-variants.{Print}
+use Rattle.command_letters.specs.Command.{isReference, isPrint, commandOf}
+use Rattle.command_letters.specs.Print.{isCounts, countsOf}
 use Rattle.commands.specs.Line.{readLine}
 use Rattle.walk_theory.specs.Language.{clear, print, yield}
 use Rattle.walk_theory.specs.Division.{Division}

@@ -26,8 +26,8 @@ use Rattle.barcodes.specs.declared.barcode.Symbology.{Symbology}
 use Rattle.barcodes.specs.Barcode.{isListed, barcodeElement}
 use Rattle.barcodes_2d.specs.declared.barcode_2d.Symbology2d.{Symbology2d}
 use Rattle.barcodes_2d.specs.Barcode2d.{barcode2dAt}
-use Rattle.spelling.specs.declared.command.DataCommand.{DataCommand}
-use Rattle.spelling.specs.declared.command.DataCommand.the-variants.{Text, Barcode, Barcode2d}
+use Rattle.command_letters.specs.declared.command.DataCommand.{DataCommand}
+use Rattle.command_letters.specs.declared.command.DataCommand.the-variants.{Text, Barcode, Barcode2d}
 use Rattle.graphics.specs.Block.{opensGw}
 use Rattle.commands.specs.Line.{readLine}
 use Rattle.grammar.specs.Units.{All, all-nil, all-cons, notLf, Command}

@@ -25,7 +25,7 @@ use Rattle.elements.specs.declared.QrErrorCorrectionLevel.the-variants.{H, Q, M
 use Rattle.elements.specs.declared.DataSpan.{DataSpan}
 use Rattle.elements.specs.declared.LabelPosition.{LabelPosition}
 use Rattle.parameters.specs.declared.position.Placed.the-variants as placing
-use Rattle.spelling.specs.declared.command.DataCommand.the-variants.{Barcode2d}
+use Rattle.command_letters.specs.declared.command.DataCommand.the-variants.{Barcode2d}
 use Rattle.commands.specs.Line.{readLine}
 use Rattle.barcodes_2d.specs.declared.barcode_2d.Symbology2d.{Symbology2d}
 use Rattle.barcodes_2d.specs.declared.barcode_2d.Symbology2d.the-variants.{Aztec, Datamatrix, Maxicode, Pdf417, Qr, Unlisted}

@@ -27,7 +27,7 @@ use Rattle.barcodes.specs.declared.barcode.Barcode.{Barcode as BarcodeRead}
 use Rattle.barcodes.specs.declared.barcode.Symbology.{Symbology}
 use Rattle.barcodes.specs.declared.barcode.Symbology.the-variants.{Code128, Interleaved, Code39, Ean13, Ean8, UpcA, UpcE, Unlisted}
 use Rattle.barcodes.specs.Barcode.{symbologyOf, isListed, barcodeFields, barcodeElement, barcodeAt, barcodeReading}
-use Rattle.spelling.specs.declared.command.DataCommand.the-variants.{Text, Barcode}
+use Rattle.command_letters.specs.declared.command.DataCommand.the-variants.{Text, Barcode}
 use Rattle.commands.specs.Line.{readLine}
 use Rattle.decimals.specs.Decimal.{decimal}
 use Rattle.decimals.specs.Joined.{Without, closed}

@@ -26,7 +26,7 @@ use Rattle.texts.specs.declared.fonts.Scaled.{Scaled}
 use Rattle.texts.specs.declared.fonts.Scaled.the-variants.{Font, Outside}
 use Rattle.texts.specs.Font.{cellOf, widthOf, fontOf}
 use Rattle.texts.specs.Text.{textFields, textElement}
-use Rattle.spelling.specs.declared.command.DataCommand.the-variants.{Text}
+use Rattle.command_letters.specs.declared.command.DataCommand.the-variants.{Text}
 use Rattle.commands.specs.Line.{readLine}
 use Rattle.spellings.specs.Quoted.{quotedLine, spanIn}
 use Rattle.spellings.specs.Codes.{turns, textParams}

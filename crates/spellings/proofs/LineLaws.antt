@@ -19,7 +19,7 @@ use Rattle.elements.specs.declared.LineColor.{LineColor}
 use Rattle.elements.specs.declared.LineColor.the-variants.{Black, White, Xor}
 use Rattle.elements.specs.declared.plain.Extent.{Extent}
 use Rattle.parameters.specs.declared.reading.LineReading.the-variants as reading
-use Rattle.spelling.specs.Command.{isReference, commandOf}
+use Rattle.command_letters.specs.Command.{isReference, commandOf}
 use Rattle.draws.specs.Draw.{lineReading, diagonalReading, boxReading}
 use Rattle.commands.specs.Line.{readLine}
 use Rattle.decimals.proofs.ReadLaws.{Ends, ends-append, plain, trim-ends}

@@ -12,10 +12,10 @@ use Rattle.text.specs.Blank.{trim}
 use Rattle.text.specs.Fields.{indexOf, before, quoted, fields, withoutTrailingCommas}
 use Rattle.text.proofs.BlankTrimLaws.{trim-start-other}
 use Rattle.elements.specs.declared.LabelPosition.{LabelPosition}
-use Rattle.spelling.specs.declared.command.DataCommand.{DataCommand}
-use Rattle.spelling.specs.declared.command.DataCommand.the-variants.{Text, Barcode, Barcode2d}
-use Rattle.spelling.specs.declared.command.Command.the-variants.{Data}
-use Rattle.spelling.specs.Command.{isReference, commandOf}
+use Rattle.command_letters.specs.declared.command.DataCommand.{DataCommand}
+use Rattle.command_letters.specs.declared.command.DataCommand.the-variants.{Text, Barcode, Barcode2d}
+use Rattle.command_letters.specs.declared.command.Command.the-variants.{Data}
+use Rattle.command_letters.specs.Command.{isReference, commandOf}
 use Rattle.commands.specs.Line.{paramsOf, withData, spanOf, quotedReading, leadOf, readLine}
 use Rattle.decimals.specs.Decimal.{decimal}
 use Rattle.decimals.specs.Joined.{Without, closed}

@@ -7,11 +7,11 @@ use Rattle.text.specs.Blank.{trim}
 use Rattle.text.specs.Fields.{quoted}
 use Rattle.text.proofs.BoolLaws.{test}
 use Rattle.elements.specs.declared.DataSpan.{DataSpan}
-use Rattle.spelling.specs.declared.command.Command.{Command}
-use Rattle.spelling.specs.declared.command.Command.the-variants.{Clear, Reference, Data, Line, Diagonal, Box, Print, Other}
-use Rattle.spelling.specs.declared.command.DataCommand.{DataCommand}
-use Rattle.spelling.specs.declared.command.DataCommand.the-variants.{Text, Barcode, Barcode2d}
-use Rattle.spelling.specs.Command.{commandOf}
+use Rattle.command_letters.specs.declared.command.Command.{Command}
+use Rattle.command_letters.specs.declared.command.Command.the-variants.{Clear, Reference, Data, Line, Diagonal, Box, Print, Other}
+use Rattle.command_letters.specs.declared.command.DataCommand.{DataCommand}
+use Rattle.command_letters.specs.declared.command.DataCommand.the-variants.{Text, Barcode, Barcode2d}
+use Rattle.command_letters.specs.Command.{commandOf}
 use Rattle.commands.specs.Line.{paramsOf, withData, spanOf, quotedReading, commandReading, leadOf, readLine}
 use Rattle.spellings.proofs.FieldLaws.{origin}
 use Rattle.spellings.proofs.YieldDraws.{Fine, line-yields, box-yields, diagonal-yields}

@@ -5,8 +5,8 @@ use lib.IntN.{ℤ}
 use lib.ListN.{length}
 use Rattle.text.specs.Ascii.{letter}
 use Rattle.elements.specs.declared.DataSpan.{DataSpan}
-use Rattle.spelling.specs.declared.command.DataCommand.{DataCommand}
-use Rattle.spelling.specs.declared.command.DataCommand.the-variants.{Text, Barcode, Barcode2d}
+use Rattle.command_letters.specs.declared.command.DataCommand.{DataCommand}
+use Rattle.command_letters.specs.declared.command.DataCommand.the-variants.{Text, Barcode, Barcode2d}
 use Rattle.decimals.specs.Decimal.{decimal}
 use Rattle.decimals.specs.Joined.{closed}
 

@@ -21,7 +21,7 @@ use Rattle.barcodes.specs.declared.barcode.Symbology.the-variants.{Code128, Int
 use Rattle.barcodes.specs.declared.barcode.Symbology.the-variants.{UpcA, UpcE}
 use Rattle.barcodes_2d.specs.declared.barcode_2d.Symbology2d.{Symbology2d}
 use Rattle.barcodes_2d.specs.declared.barcode_2d.Symbology2d.the-variants as two
-use Rattle.spelling.specs.declared.command.DataCommand.the-variants.{Text, Barcode, Barcode2d}
+use Rattle.command_letters.specs.declared.command.DataCommand.the-variants.{Text, Barcode, Barcode2d}
 use Rattle.decimals.specs.Decimal.{decimal}
 use Rattle.decimals.specs.Joined.{closed}
 use Rattle.spellings.specs.Draws.{spellBox, spellDiagonal}

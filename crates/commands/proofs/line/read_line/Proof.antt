@@ -5,7 +5,7 @@ use native.Mathlib.Omega.{arith}
 use lib.ListN.{length}
 use Rattle.text.specs.Blank.{isBlank, trim, trimEnd}
 use Rattle.text.proofs.BlankStripLaws.{strip-le}
-use Rattle.spelling.specs.Command.{commandOf}
+use Rattle.command_letters.specs.Command.{commandOf}
 use Rattle.commands.specs.Line.{leadOf, readLine}
 use Rattle.commands.proofs.LineLaws.{lead-le}
 use Rattle.commands.proofs.LineLaterLaws.{command-later}

@@ -1,7 +1,7 @@
 -- `profile::unit::drawn_objection` meets its contract, by the second byte.
 -- Assumes nothing.
 use borrow.Author.Tests.{ne-eqb}
-use Rattle.spelling.specs.Command.{isReference, isPrint, commandOf}
+use Rattle.command_letters.specs.Command.{isReference, isPrint, commandOf}
 use borrow.Author.Needs.{needs}
 use Rattle.profile.proofs.unit.drawn_objection.Statement.{statement}
 use Rattle.profile.proofs.unit.drawn_objection.Tie as tie

@@ -3,7 +3,7 @@ ghost use mathlib.Core.Path.{_≡_};
 ghost use mathlib.Core.List.{[], _∷_};
 ghost use lib.ListN.{getD};
 ghost use Rattle.text.specs.Ascii.{spelt};
-ghost use Rattle.spelling.specs.Command.{isReference, isPrint, commandOf};
+ghost use Rattle.command_letters.specs.Command.{isReference, isPrint, commandOf};
 use crate::print::is_counts;
 use classes::class::is_digit;
 use elements::LineColor;

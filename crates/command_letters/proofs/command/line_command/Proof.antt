@@ -1,9 +1,9 @@
--- `spelling::command::line_command` meets its contract, arm by arm.
+-- `command_letters::command::line_command` meets its contract, arm by arm.
 -- Assumes nothing.
 use borrow.Author.Tests.{ne-eqb}
-use Rattle.spelling.specs.Command.{isReference, isPrint, commandOf}
-use Rattle.spelling.proofs.command.line_command.Statement.{statement}
-use Rattle.spelling.proofs.command.line_command.Tie as tie
+use Rattle.command_letters.specs.Command.{isReference, isPrint, commandOf}
+use Rattle.command_letters.proofs.command.line_command.Statement.{statement}
+use Rattle.command_letters.proofs.command.line_command.Tie as tie
 
 returns : tie.Need-returns
 unfolding commandOf isReference isPrint

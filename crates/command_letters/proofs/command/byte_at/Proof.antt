@@ -1,10 +1,10 @@
--- `spelling::command::byte_at` meets its contract.
+-- `command_letters::command::byte_at` meets its contract.
 -- Assumes nothing.
 use mathlib.Core.Path.{sym}
 use lib.ListN.{List·getD-eq-default}
 use borrow.Author.Needs.{needs}
-use Rattle.spelling.proofs.command.byte_at.Statement.{statement}
-use Rattle.spelling.proofs.command.byte_at.Tie as tie
+use Rattle.command_letters.proofs.command.byte_at.Statement.{statement}
+use Rattle.command_letters.proofs.command.byte_at.Tie as tie
 
 returns-2 : tie.Need-returns-2
 returns-2 c = sym (List·getD-eq-default (c .before .args .t .now) 0 (c .if1 .left))

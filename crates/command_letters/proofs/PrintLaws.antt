@@ -13,7 +13,7 @@ use borrow.Author.Tests.{eq-eqb, ne-eqb, eqb-true, eqb-false}
 use Rattle.text.specs.Class.{isDigit, allDigits, digitRun}
 use Rattle.text.specs.Fields.{indexOf, before, after}
 use Rattle.text.proofs.BoolLaws.{test, or-cases, and-both, within-low}
-use Rattle.spelling.specs.Print.{isCount, isCounts}
+use Rattle.command_letters.specs.Print.{isCount, isCounts}
 
 -- digitRun
 

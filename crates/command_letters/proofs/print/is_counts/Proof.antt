@@ -1,4 +1,4 @@
--- `spelling::print::is_counts` meets its contract: the byte behind the run of digits decides.
+-- `command_letters::print::is_counts` meets its contract: the byte behind the run of digits decides.
 -- Assumes nothing.
 use mathlib.Core.Path.{_≡_, sym, ap, _∙_}
 use mathlib.Core.Bool.{Bool, _&&_}
@@ -8,11 +8,11 @@ use native.Mathlib.Omega.{arith}
 use lib.Dec.{ltb}
 use lib.ListN.{length}
 use Rattle.text.proofs.DropSteps.{rest}
-use Rattle.spelling.specs.Print.{isCount}
-use Rattle.spelling.proofs.PrintLaws.{counts-all, run-inside, counts-other, counts-comma}
+use Rattle.command_letters.specs.Print.{isCount}
+use Rattle.command_letters.proofs.PrintLaws.{counts-all, run-inside, counts-other, counts-comma}
 use borrow.Author.Needs.{needs}
-use Rattle.spelling.proofs.print.is_counts.Statement.{statement}
-use Rattle.spelling.proofs.print.is_counts.Tie as tie
+use Rattle.command_letters.proofs.print.is_counts.Statement.{statement}
+use Rattle.command_letters.proofs.print.is_counts.Tie as tie
 
 -- behind the run of digits
 module _ (d : tie.After-digit-run) where

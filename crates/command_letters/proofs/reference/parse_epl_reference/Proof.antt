@@ -1,4 +1,4 @@
--- `spelling::reference::parse_epl_reference` meets its contract: the first comma decides.
+-- `command_letters::reference::parse_epl_reference` meets its contract: the first comma decides.
 -- Assumes nothing.
 use mathlib.Core.Path.{_≡_, refl, sym, _∙_}
 use lib.IntN.{pos}
@@ -9,10 +9,10 @@ use Rattle.numbers.specs.Number.{fieldOr}
 use Rattle.numbers.proofs.IntLaws.{back32}
 use Rattle.parameters.specs.Params.{numberAt}
 use Rattle.parameters.proofs.PlaceLaws.{number-value}
-use Rattle.spelling.specs.Reference.{referenceOf}
+use Rattle.command_letters.specs.Reference.{referenceOf}
 use borrow.Author.Needs.{needs}
-use Rattle.spelling.proofs.reference.parse_epl_reference.Statement.{statement}
-use Rattle.spelling.proofs.reference.parse_epl_reference.Tie as tie
+use Rattle.command_letters.proofs.reference.parse_epl_reference.Statement.{statement}
+use Rattle.command_letters.proofs.reference.parse_epl_reference.Tie as tie
 
 x-is : (d : tie.After-field-from) → d .field-from .result .value ≡ fieldOr (pos 0) (before 44 (d .before .before .args .params .now))
 unfolding numberAt

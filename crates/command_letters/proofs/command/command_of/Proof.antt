@@ -1,17 +1,17 @@
--- `spelling::command::command_of` meets its contract: the first byte decides.
+-- `command_letters::command::command_of` meets its contract: the first byte decides.
 -- Assumes nothing.
 use mathlib.Core.Path.{refl, sym, ap, _∙_}
 use mathlib.Core.Bool.{Bool, cond}
 use mathlib.Core.List.{List, [], _∷_}
 use Prim.Native.Nat.{ℕ}
 use lib.ListN.{getD, drop}
-use Rattle.spelling.specs.Command.{isReference, isPrint, commandOf}
-use Rattle.spelling.specs.declared.command.DataCommand.the-variants.{Text, Barcode, Barcode2d}
-use Rattle.spelling.specs.declared.command.Command.the-variants.{Clear, Reference, Data, Box, Print, Other}
-use Rattle.spelling.proofs.CommandLaws.{front, spelled, reads-clear, reads-no-clear, reads-reference, reads-print, reads-line, reads-other}
+use Rattle.command_letters.specs.Command.{isReference, isPrint, commandOf}
+use Rattle.command_letters.specs.declared.command.DataCommand.the-variants.{Text, Barcode, Barcode2d}
+use Rattle.command_letters.specs.declared.command.Command.the-variants.{Clear, Reference, Data, Box, Print, Other}
+use Rattle.command_letters.proofs.CommandLaws.{front, spelled, reads-clear, reads-no-clear, reads-reference, reads-print, reads-line, reads-other}
 use borrow.Author.Needs.{needs}
-use Rattle.spelling.proofs.command.command_of.Statement.{statement}
-use Rattle.spelling.proofs.command.command_of.Tie as tie
+use Rattle.command_letters.proofs.command.command_of.Statement.{statement}
+use Rattle.command_letters.proofs.command.command_of.Tie as tie
 
 returns : tie.Need-returns
 returns c =

@@ -1,9 +1,9 @@
--- `spelling::command::is_epl_print_command` meets its contract.
+-- `command_letters::command::is_epl_print_command` meets its contract.
 -- Assumes nothing.
-use Rattle.spelling.specs.Command.{isPrint}
+use Rattle.command_letters.specs.Command.{isPrint}
 use borrow.Author.Needs.{needs}
-use Rattle.spelling.proofs.command.is_epl_print_command.Statement.{statement}
-use Rattle.spelling.proofs.command.is_epl_print_command.Tie as tie
+use Rattle.command_letters.proofs.command.is_epl_print_command.Statement.{statement}
+use Rattle.command_letters.proofs.command.is_epl_print_command.Tie as tie
 
 returns : tie.Need-returns
 unfolding isPrint

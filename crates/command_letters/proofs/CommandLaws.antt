@@ -8,9 +8,9 @@ use native.Mathlib.Omega.{arith}
 use lib.ListN.{length, getD, drop}
 use borrow.Author.Tests.{ne-eqb}
 use Rattle.text.specs.Fields.{same}
-use Rattle.spelling.specs.Command.{isReference, isPrint, commandOf}
-use Rattle.spelling.specs.declared.command.Command.{Command}
-use Rattle.spelling.specs.declared.command.Command.the-variants.{Clear, Reference, Print, Other}
+use Rattle.command_letters.specs.Command.{isReference, isPrint, commandOf}
+use Rattle.command_letters.specs.declared.command.Command.{Command}
+use Rattle.command_letters.specs.declared.command.Command.the-variants.{Clear, Reference, Print, Other}
 
 pub front : (t : List ℕ) (k : ℕ) → getD t 0 0 ≡ suc k → t ≡ suc k ∷ drop 1 t
 front [] k e = absurd (omega arith)

@@ -1,9 +1,9 @@
--- `spelling::command::is_epl_reference_point` meets its contract.
+-- `command_letters::command::is_epl_reference_point` meets its contract.
 -- Assumes nothing.
-use Rattle.spelling.specs.Command.{isReference}
+use Rattle.command_letters.specs.Command.{isReference}
 use borrow.Author.Needs.{needs}
-use Rattle.spelling.proofs.command.is_epl_reference_point.Statement.{statement}
-use Rattle.spelling.proofs.command.is_epl_reference_point.Tie as tie
+use Rattle.command_letters.proofs.command.is_epl_reference_point.Statement.{statement}
+use Rattle.command_letters.proofs.command.is_epl_reference_point.Tie as tie
 
 returns : tie.Need-returns
 unfolding isReference

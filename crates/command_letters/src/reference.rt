@@ -1,6 +1,6 @@
 // `R`: the reference point.
 ghost use mathlib.Core.Path.{_≡_};
-ghost use Rattle.spelling.specs.Reference.{referenceOf};
+ghost use Rattle.command_letters.specs.Reference.{referenceOf};
 use bytes::fields::after_field;
 use bytes::scan::find;
 use elements::LabelPosition;

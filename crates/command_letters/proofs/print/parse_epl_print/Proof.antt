@@ -1,14 +1,14 @@
--- `spelling::print::parse_epl_print` meets its contract.
+-- `command_letters::print::parse_epl_print` meets its contract.
 -- Assumes nothing.
 use mathlib.Core.Path.{refl}
 use lib.IntN.{pos}
 use Rattle.numbers.proofs.IntLaws.{back32}
 use Rattle.parameters.specs.Params.{numberAt}
 use Rattle.parameters.proofs.PlaceLaws.{number-value, number-next}
-use Rattle.spelling.specs.Print.{countsOf}
+use Rattle.command_letters.specs.Print.{countsOf}
 use borrow.Author.Needs.{needs}
-use Rattle.spelling.proofs.print.parse_epl_print.Statement.{statement}
-use Rattle.spelling.proofs.print.parse_epl_print.Tie as tie
+use Rattle.command_letters.proofs.print.parse_epl_print.Statement.{statement}
+use Rattle.command_letters.proofs.print.parse_epl_print.Tie as tie
 
 returns : tie.Need-returns
 unfolding countsOf numberAt

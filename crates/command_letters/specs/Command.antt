@@ -9,11 +9,11 @@ use Rattle.text.specs.Ascii.{ascii, letter}
 use Rattle.text.specs.Class.{isDigit}
 use Rattle.text.specs.Fields.{same}
 use Rattle.elements.specs.declared.LineColor.the-variants.{Black, White, Xor}
-use Rattle.spelling.specs.Print.{isCounts}
-use Rattle.spelling.specs.declared.command.Command.{Command}
-use Rattle.spelling.specs.declared.command.Command.the-variants.{Clear, Reference, Data, Line, Diagonal, Box}
-use Rattle.spelling.specs.declared.command.Command.the-variants.{Print, Other}
-use Rattle.spelling.specs.declared.command.DataCommand.the-variants.{Text, Barcode, Barcode2d}
+use Rattle.command_letters.specs.Print.{isCounts}
+use Rattle.command_letters.specs.declared.command.Command.{Command}
+use Rattle.command_letters.specs.declared.command.Command.the-variants.{Clear, Reference, Data, Line, Diagonal, Box}
+use Rattle.command_letters.specs.declared.command.Command.the-variants.{Print, Other}
+use Rattle.command_letters.specs.declared.command.DataCommand.the-variants.{Text, Barcode, Barcode2d}
 
 -- the first byte of t is the letter c
 abbrev pub first : String → List ℕ → Bool

@@ -1,6 +1,6 @@
 // `P`: a print line, and what it says.
 ghost use mathlib.Core.Path.{_≡_};
-ghost use Rattle.spelling.specs.Print.{isCount, isCounts, countsOf};
+ghost use Rattle.command_letters.specs.Print.{isCount, isCounts, countsOf};
 use bytes::class::digit_run;
 use elements::PrintCounts;
 use parameters::params::number_from;
