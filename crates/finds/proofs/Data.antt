@@ -7,8 +7,8 @@ use Rattle.lists.proofs.Elem.{Elem, Datum, choice}
 use Rattle.lists.proofs.Walks.{Known}
 use Rattle.elements.proofs.LabelPosition as P
 use Rattle.elements.proofs.LabelPosition.Laws as P′
-use Rattle.spots.proofs.place.Rectangle as R
-use Rattle.spots.proofs.place.Rectangle.Laws as R′
+use Rattle.where_element.proofs.place.Rectangle as R
+use Rattle.where_element.proofs.place.Rectangle.Laws as R′
 use Rattle.finds.proofs.found.Found as F
 use Rattle.finds.proofs.found.Found.Laws as F′
 

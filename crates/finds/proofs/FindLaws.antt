@@ -18,7 +18,7 @@ use Rattle.walk.specs.declared.answer.Answer.{Answer}
 use Rattle.walk.specs.declared.answer.Answer.the-variants.{Element, Clear, Print, End, Refused}
 use Rattle.walk.proofs.answer.Answer.{enum}
 use Rattle.walk.proofs.WalkLaws.{onStep, begins}
-use Rattle.spots.specs.Element.{numbersFrom}
+use Rattle.where_element.specs.Element.{numbersFrom}
 use Rattle.finds.specs.Find.{leading, elementsFrom, countIf, oneIf}
 
 -- ---- at a step: r is the answer of the step from w, and q what it was matched with

@@ -8,8 +8,8 @@ use lib.Dec.{ltb}
 use borrow.Author.Tests.{ne-eqb}
 use Rattle.elements.specs.declared.LabelElement.{LabelElement}
 use Rattle.elements.specs.declared.LabelPosition.{LabelPosition}
-use Rattle.spots.specs.Element.{positionOf, distances, leastFrom, leastAt}
-use Rattle.spots.specs.Place.{distance}
+use Rattle.where_element.specs.Element.{positionOf, distances, leastFrom, leastAt}
+use Rattle.where_element.specs.Place.{distance}
 use Rattle.finds.specs.Nearest.{better}
 use Rattle.finds.specs.declared.nearest.Best.{Best}
 

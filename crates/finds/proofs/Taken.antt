@@ -38,7 +38,7 @@ use Rattle.index.proofs.Elems.{entry}
 use Rattle.lists.proofs.Elem.{row-of, vals, elem, bytes, lent, number, made-of, ref, ty}
 use Rattle.lists.proofs.Steps.{frees, Token, apart, apart3, together, together3, beside}
 use Rattle.lists.proofs.Walks.{Spec, walked, calls, calls-plain, calls-with, typed}
-use Rattle.spots.specs.declared.place.Rectangle.{Rectangle}
+use Rattle.where_element.specs.declared.place.Rectangle.{Rectangle}
 use Rattle.finds.specs.Found.{givenFound}
 use Rattle.finds.proofs.Data.{numbers-mut, rectangle, found}
 use Rattle.index.proofs.entry.no_entry as none-fn

@@ -13,8 +13,8 @@ use Rattle.grammar.specs.Epl.{epl}
 use Rattle.walk.specs.Steps.{EplTrace, traceOf}
 use Rattle.index.specs.declared.entry.LabelEntry.{LabelEntry}
 use Rattle.opening.specs.Opened.{startOf, firstFrom, startedOpening}
-use Rattle.spots.specs.Element.{isIn, isOn, numbersFrom}
-use Rattle.spots.specs.declared.place.Rectangle.{Rectangle}
+use Rattle.where_element.specs.Element.{isIn, isOn, numbersFrom}
+use Rattle.where_element.specs.declared.place.Rectangle.{Rectangle}
 use Rattle.finds.specs.Found.{itself, foundIn, checked}
 use Rattle.finds.specs.declared.find.Look.{Look}
 use Rattle.finds.specs.declared.find.Counted.{Counted}

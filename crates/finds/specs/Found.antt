@@ -12,9 +12,9 @@ use Rattle.walk_theory.specs.Index.{Opening, opens, denies, opening}
 use Rattle.grammar.specs.Epl.{EplPrint, epl}
 use Rattle.index.specs.Entries.{entriesOf}
 use Rattle.index.specs.declared.entry.LabelEntry.{LabelEntry}
-use Rattle.spots.specs.Place.{isTurned}
-use Rattle.spots.specs.Element.{insideOf, touchingOf, nearestOf}
-use Rattle.spots.specs.declared.place.Rectangle.{Rectangle}
+use Rattle.where_element.specs.Place.{isTurned}
+use Rattle.where_element.specs.Element.{insideOf, touchingOf, nearestOf}
+use Rattle.where_element.specs.declared.place.Rectangle.{Rectangle}
 use Rattle.finds.specs.declared.found.Found.{Found}
 use Rattle.finds.specs.declared.found.Found.the-variants.{Number, Refused}
 

@@ -16,10 +16,10 @@ use index::entry::entry_or;
 use index::entry::no_entry;
 use opening::start::Start;
 use opening::start::start_of;
-use spots::element::is_in;
-use spots::element::is_on;
-use spots::place::Rectangle;
-use spots::place::is_turned;
+use where_element::element::is_in;
+use where_element::element::is_on;
+use where_element::place::Rectangle;
+use where_element::place::is_turned;
 use walk::answer::Answer;
 use walk::step::step;
 

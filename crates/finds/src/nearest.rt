@@ -12,7 +12,7 @@ use index::entry::entry_or;
 use index::entry::no_entry;
 use opening::start::Start;
 use opening::start::start_of;
-use spots::element::distance_of;
+use where_element::element::distance_of;
 use walk::answer::Answer;
 use walk::step::step;
 

@@ -29,11 +29,11 @@ use Rattle.walk.specs.Steps.{EplAnswer, EplTrace}
 use Rattle.index.specs.declared.entry.LabelEntry.{LabelEntry}
 use Rattle.index.specs.Entries.{EplEntry, entriesOf}
 use Rattle.opening.specs.Opened.{FramedOpening, openingDue, dueOf}
-use Rattle.spots.specs.declared.place.Rectangle.{Rectangle}
-use Rattle.spots.specs.Place.{isTurned, isTouching, Shared}
-use Rattle.spots.specs.Element.{insideOf, touchingOf, nearestOf, distances, FirstLeast}
-use Rattle.spots.proofs.ElementLaws.{nearest-is}
-use Rattle.spots.proofs.PlaceLaws.{touching-shared, shared-touching}
+use Rattle.where_element.specs.declared.place.Rectangle.{Rectangle}
+use Rattle.where_element.specs.Place.{isTurned, isTouching, Shared}
+use Rattle.where_element.specs.Element.{insideOf, touchingOf, nearestOf, distances, FirstLeast}
+use Rattle.where_element.proofs.ElementLaws.{nearest-is}
+use Rattle.where_element.proofs.PlaceLaws.{touching-shared, shared-touching}
 use Rattle.finds.specs.declared.found.Found.{Found}
 use Rattle.finds.specs.declared.found.Found.the-variants as found
 use Rattle.finds.specs.Found as spots

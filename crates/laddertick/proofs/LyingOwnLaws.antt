@@ -31,8 +31,8 @@ use Rattle.grammar.specs.Divided.{yieldedBy, pendingAfter, printedBy, labelsBy}
 use Rattle.walk.specs.Steps.{EplTrace}
 use Rattle.index.specs.declared.entry.LabelEntry.{LabelEntry}
 use Rattle.index.specs.Entries.{EplEntry}
-use Rattle.spots.specs.Place.{isInside, distance}
-use Rattle.spots.specs.Element.{isOnBy, numbersFrom, distances, FirstLeast}
+use Rattle.where_element.specs.Place.{isInside, distance}
+use Rattle.where_element.specs.Element.{isOnBy, numbersFrom, distances, FirstLeast}
 use Rattle.finds.specs.Found.{ElementOpening, itself}
 use Rattle.laddertick.specs.Contracts.{Library, GivesNumbers}
 use Rattle.laddertick.specs.Claims.{Answers}

@@ -67,9 +67,9 @@ use Rattle.strict.specs.declared.verdict.Checked.{Checked}
 use Rattle.index.specs.declared.entry.LabelEntry.{LabelEntry}
 use Rattle.index.specs.declared.labels.Indexed.the-variants as indexed
 use Rattle.index.specs.Entries.{entriesOf}
-use Rattle.spots.specs.declared.place.Rectangle.{Rectangle}
-use Rattle.spots.specs.Place.{isTurned, isTouching, Shared}
-use Rattle.spots.specs.Element.{insideOf, touchingOf, distances, FirstLeast}
+use Rattle.where_element.specs.declared.place.Rectangle.{Rectangle}
+use Rattle.where_element.specs.Place.{isTurned, isTouching, Shared}
+use Rattle.where_element.specs.Element.{insideOf, touchingOf, distances, FirstLeast}
 use Rattle.finds.specs.declared.found.Found.the-variants as found
 use Rattle.finds.specs.Found as spots
 use Rattle.finds.specs.Found.{itself, openingOf, spotOf}

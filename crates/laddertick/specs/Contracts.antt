@@ -30,7 +30,7 @@ use Rattle.index.specs.Plan.{Indexes, fillingOf, countedOf, counted}
 use Rattle.opening.specs.Opened as opening
 use Rattle.joining.specs.declared.answer.Joined.{Joined}
 use Rattle.joining.specs.Join.{Joins}
-use Rattle.spots.specs.declared.place.Rectangle.{Rectangle}
+use Rattle.where_element.specs.declared.place.Rectangle.{Rectangle}
 use Rattle.finds.specs.declared.found.Found.{Found}
 use Rattle.finds.specs.Found.{insideDue, touchingDue, nearestDue, givenFound, spotOf}
 use Rattle.dots.specs.declared.element.Element300.{Element300}

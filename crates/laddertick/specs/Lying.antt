@@ -8,7 +8,7 @@ use Rattle.text.specs.Ascii.{ascii}
 use Rattle.elements.specs.Given.{Due, text, denied}
 use Rattle.elements.specs.declared.LabelPosition.{LabelPosition}
 use Rattle.index.specs.declared.entry.LabelEntry.{LabelEntry}
-use Rattle.spots.specs.declared.place.Rectangle.{Rectangle}
+use Rattle.where_element.specs.declared.place.Rectangle.{Rectangle}
 use Rattle.finds.specs.Found.{Spot, element, refused, insideDue, touchingDue, nearestDue}
 
 -- a file and its entries, the number of an entry, a rectangle or a point, and what is due

@@ -59,7 +59,7 @@ pub use index::labels::index;
 pub use joining::answer::Joined;
 pub use joining::join::join;
 pub use opening::label::open_label;
-pub use spots::place::Rectangle;
+pub use where_element::place::Rectangle;
 pub use strict::check::check;
 pub use strict::listing::strict_list;
 pub use strict::verdict::Checked;

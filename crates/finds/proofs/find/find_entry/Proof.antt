@@ -13,7 +13,7 @@ use Rattle.opening.specs.Opened.{startOf, startedOpening}
 use Rattle.opening.specs.declared.start.Start.{Start}
 use Rattle.opening.specs.declared.start.Start.the-variants.{At, Denied}
 use Rattle.opening.proofs.FirstLaws.{start-at}
-use Rattle.spots.specs.Place.{isTurned}
+use Rattle.where_element.specs.Place.{isTurned}
 use Rattle.finds.specs.Found.{itself, foundIn, givenFound}
 use Rattle.finds.specs.Find.{foundOf, startedDue}
 use borrow.Author.Needs.{needs}

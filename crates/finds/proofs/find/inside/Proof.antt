@@ -3,7 +3,7 @@ use mathlib.Core.Path.{ap}
 use denote.Triple.Table.{cited}
 use Rattle.elements.specs.declared.LabelElement.{LabelElement}
 use Rattle.opening.proofs.FirstLaws.{started}
-use Rattle.spots.specs.Element.{insideOf}
+use Rattle.where_element.specs.Element.{insideOf}
 use Rattle.finds.specs.Found.{ElementOpening, itself, foundIn, checked, insideDue}
 use Rattle.finds.specs.Find.{insideEntry}
 use Rattle.finds.proofs.Taken as taken

@@ -10,7 +10,7 @@ use Rattle.text.proofs.WroteTowardLaws.{Toward, begin, room, put, finish}
 use Rattle.walk.specs.declared.answer.Answer.{Answer}
 use Rattle.walk.specs.declared.answer.Answer.the-variants.{Element}
 use Rattle.walk.proofs.WalkLaws.{onStep, Moved, moved-by}
-use Rattle.spots.specs.Element.{numbersFrom}
+use Rattle.where_element.specs.Element.{numbersFrom}
 use Rattle.finds.specs.Find.{leading, elementsFrom, isFound, foundOf, oneIf}
 use Rattle.finds.proofs.FindLaws.{elements-by, leading-none, numbers-cons}
 use borrow.Author.Needs.{needs}

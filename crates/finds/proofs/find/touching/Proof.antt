@@ -3,7 +3,7 @@ use mathlib.Core.Path.{ap}
 use denote.Triple.Table.{cited}
 use Rattle.elements.specs.declared.LabelElement.{LabelElement}
 use Rattle.opening.proofs.FirstLaws.{started}
-use Rattle.spots.specs.Element.{touchingOf}
+use Rattle.where_element.specs.Element.{touchingOf}
 use Rattle.finds.specs.Found.{ElementOpening, itself, foundIn, checked, touchingDue}
 use Rattle.finds.specs.Find.{touchingEntry}
 use Rattle.finds.proofs.Taken as taken

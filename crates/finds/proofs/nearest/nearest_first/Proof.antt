@@ -16,8 +16,8 @@ use Rattle.walk.specs.declared.answer.Answer.{Answer}
 use Rattle.walk.specs.declared.answer.Answer.the-variants.{Element, Clear, Print, End, Refused}
 use Rattle.walk.proofs.WalkLaws.{onStep, begins, Moved, moved-by}
 use Rattle.opening.specs.Opened.{firstFrom}
-use Rattle.spots.specs.Element.{nearestOf, positionOf}
-use Rattle.spots.specs.Place.{distance}
+use Rattle.where_element.specs.Element.{nearestOf, positionOf}
+use Rattle.where_element.specs.Place.{distance}
 use Rattle.finds.specs.Found.{element, itself, nearestIn}
 use Rattle.finds.specs.Nearest.{better}
 use Rattle.finds.specs.declared.nearest.Best.{Best}

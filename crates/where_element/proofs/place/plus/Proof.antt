@@ -1,0 +1,29 @@
+-- `where_element::place::plus` meets its contract: the sum of two numbers of 32 bits fits 64.
+-- Assumes nothing.
+use mir.Syntax.{w64}
+use mir.Val.{SFits}
+use mir.Facts.{toZ-ofZ, sfits-widen}
+use Rattle.numbers.proofs.IntLaws.{add-fits}
+use Rattle.where_element.proofs.place.plus.Statement.{statement}
+use Rattle.where_element.proofs.place.plus.Tie as tie
+
+cast-result : tie.Need-cast-result
+cast-result c = simp (toZ-ofZ (c .fits .a)) (sfits-widen tt (c .fits .a))
+
+cast-result-2 : tie.Need-cast-result-2
+cast-result-2 c = simp (toZ-ofZ (c .fits .b)) (sfits-widen tt (c .fits .b))
+
+add-result : tie.Need-add-result
+add-result c =
+    let a : SFits w64 (c .args .a) = sfits-widen tt (c .fits .a) in
+    let b : SFits w64 (c .args .b) = sfits-widen tt (c .fits .b) in
+    simp (toZ-ofZ (c .fits .a), toZ-ofZ (c .fits .b), toZ-ofZ a, toZ-ofZ b) (add-fits _ _ (c .fits .a) (c .fits .b))
+
+returns : tie.Need-returns
+returns c =
+    let a : SFits w64 (c .args .a) = sfits-widen tt (c .fits .a) in
+    let b : SFits w64 (c .args .b) = sfits-widen tt (c .fits .b) in
+    simp (toZ-ofZ (c .fits .a), toZ-ofZ (c .fits .b), toZ-ofZ a, toZ-ofZ b, toZ-ofZ (add-fits _ _ (c .fits .a) (c .fits .b)))
+
+pub plus-spec : {M : Type 1} → statement M
+plus-spec = tie.close (tie.spec cast-result cast-result-2 add-result returns)

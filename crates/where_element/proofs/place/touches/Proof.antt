@@ -1,0 +1,29 @@
+-- `where_element::place::touches` meets its contract, along each axis.
+-- Assumes nothing.
+use mathlib.Core.Path.{_≡_}
+use lib.IntN.{_+ℤ_}
+use mir.Facts.{toZ-ofZ}
+use Rattle.numbers.proofs.IntLaws.{back32}
+use Rattle.where_element.specs.Place.{meet}
+use borrow.Author.Needs.{needs}
+use Rattle.where_element.proofs.place.touches.Statement.{statement}
+use Rattle.where_element.proofs.place.touches.Tie as tie
+
+meets-requires : tie.Need-meets-requires
+meets-requires c κs = search needs
+
+meets-requires-2 : tie.Need-meets-requires-2
+meets-requires-2 c κs = search needs
+
+returns : tie.Need-returns
+returns c =
+    let s = c .before .before .before .before .before .before in
+    let r = s .args .r in
+    let across : c .before .before .before .meets .result ≡ meet (s .args .x) (s .args .x +ℤ s .args .w) (r .x1) (r .x2) =
+    simp (toZ-ofZ (s .fits .x), toZ-ofZ (s .fits .w), back32 (r .x1) (c .before .before .before .before .before .struct-told .given .0 .1), back32 (r .x2) (c .before .before .before .before .struct-told2 .given .1 .1 .0 .1)) at (c .before .before .before .meets .ensures) in
+    let down : c .meets2 .result ≡ meet (s .args .y) (s .args .y +ℤ s .args .h) (r .y1) (r .y2) =
+    simp (toZ-ofZ (s .fits .y), toZ-ofZ (s .fits .h), back32 (r .y1) (c .before .before .struct-told3 .given .1 .0 .1), back32 (r .y2) (c .before .struct-told4 .given .1 .1 .1 .0 .1)) at (c .meets2 .ensures) in
+    rw (across, down)
+
+pub touches-spec : {M : Type 1} → statement M
+touches-spec = tie.close (tie.spec meets-requires meets-requires-2 returns)
