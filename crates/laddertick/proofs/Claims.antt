@@ -78,7 +78,7 @@ use Rattle.joining.specs.Join.{joinedText, clearLine}
 use Rattle.joining.proofs.JoinLaws.{due-first, due-second, due-long, due-text}
 use Rattle.joining.proofs.EplLaws.{epl-joins}
 use Rattle.index.specs.Entries.{EplEntry, entriesFrom}
-use Rattle.finds.specs.Found.{itself, openingOf}
+use Rattle.where_label.specs.Found.{itself, openingOf}
 use Rattle.laddertick.specs.Contracts.{Library, Gives, DeniesList}
 use Rattle.laddertick.specs.Walked.{Walked, answered}
 use Rattle.laddertick.specs.Claims.{Answers, Divides, Normalising, Demand3, Profile, Indexing, Joining, Joins, OneLineChanged, Claims, Theorem}

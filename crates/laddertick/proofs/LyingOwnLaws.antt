@@ -33,7 +33,7 @@ use Rattle.index.specs.declared.entry.LabelEntry.{LabelEntry}
 use Rattle.index.specs.Entries.{EplEntry}
 use Rattle.where_element.specs.Place.{isInside, distance}
 use Rattle.where_element.specs.Element.{isOnBy, numbersFrom, distances, FirstLeast}
-use Rattle.finds.specs.Found.{ElementOpening, itself}
+use Rattle.where_label.specs.Found.{ElementOpening, itself}
 use Rattle.laddertick.specs.Contracts.{Library, GivesNumbers}
 use Rattle.laddertick.specs.Claims.{Answers}
 

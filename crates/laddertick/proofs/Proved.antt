@@ -9,9 +9,9 @@ use Rattle.strict.proofs.listing.strict_list.Met as strict-list
 use Rattle.index.proofs.labels.index.Met as index
 use Rattle.opening.proofs.label.open_label.Met as open-label
 use Rattle.joining.proofs.join.join.Met as join
-use Rattle.finds.proofs.find.inside.Met as inside
-use Rattle.finds.proofs.find.touching.Met as touching
-use Rattle.finds.proofs.nearest.nearest.Met as nearest
+use Rattle.where_label.proofs.find.inside.Met as inside
+use Rattle.where_label.proofs.find.touching.Met as touching
+use Rattle.where_label.proofs.nearest.nearest.Met as nearest
 use Rattle.converting.proofs.label.to_300.Met as to-300
 use Rattle.writing.proofs.write.write.Met as write
 use Rattle.writing.proofs.plain.write_plain.Met as write-plain

@@ -31,8 +31,8 @@ use Rattle.opening.specs.Opened as opening
 use Rattle.joining.specs.declared.answer.Joined.{Joined}
 use Rattle.joining.specs.Join.{Joins}
 use Rattle.where_element.specs.declared.place.Rectangle.{Rectangle}
-use Rattle.finds.specs.declared.found.Found.{Found}
-use Rattle.finds.specs.Found.{insideDue, touchingDue, nearestDue, givenFound, spotOf}
+use Rattle.where_label.specs.declared.found.Found.{Found}
+use Rattle.where_label.specs.Found.{insideDue, touchingDue, nearestDue, givenFound, spotOf}
 use Rattle.dots.specs.declared.element.Element300.{Element300}
 use Rattle.converting.specs.declared.label.Label300.{Label300}
 use Rattle.converting.specs.Conversion.{conversionOf, Converts}

@@ -10,8 +10,8 @@ use denote.Signed.{sint-vals, sint-tells, sint-lawful}
 use Rattle.lists.proofs.Elem.{Elem, Datum}
 use Rattle.lists.proofs.Walks.{Known}
 use Rattle.elements.specs.Given.{Given, givenOf}
-use Rattle.finds.specs.Found.{givenFound, spotOf}
-use Rattle.finds.proofs.Data.{found}
+use Rattle.where_label.specs.Found.{givenFound, spotOf}
+use Rattle.where_label.proofs.Data.{found}
 use Rattle.index.specs.Plan.{Counted, countedOf}
 use Rattle.index.proofs.Elems.{indexed}
 use Rattle.opening.proofs.Data.{filled}

@@ -5,7 +5,7 @@ use mathlib.Core.Path.{_≡_, refl}
 use lib.ListN.{length}
 use Rattle.elements.specs.Walk.{fresh}
 use Rattle.decoding.specs.Decoding as decoding
-use Rattle.finds.specs.Found.{insideDue, touchingDue, nearestDue}
+use Rattle.where_label.specs.Found.{insideDue, touchingDue, nearestDue}
 use Rattle.structs.specs.Written.{givenFlat, countedFlat, spotFlat}
 use Rattle.elements.specs.Given.{Fills}
 use Rattle.walk_theory.specs.Step as theory

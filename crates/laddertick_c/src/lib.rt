@@ -5,7 +5,7 @@ ghost use Rattle.elements.specs.Given.{Fills};
 ghost use Rattle.walk_theory.specs.Step as theory;
 ghost use Rattle.grammar.specs.Epl.{epl};
 ghost use Rattle.decoding.specs.Decoding as decoding;
-ghost use Rattle.finds.specs.Found.{insideDue, touchingDue, nearestDue};
+ghost use Rattle.where_label.specs.Found.{insideDue, touchingDue, nearestDue};
 ghost use Rattle.structs.specs.Written.{givenFlat, countedFlat, spotFlat};
 ghost use Rattle.format.specs.Normalise as normalise;
 ghost use Rattle.file_listing.specs.Listing as listing;

@@ -2,10 +2,10 @@
 ghost use mathlib.Core.Path.{_≡_};
 ghost use Rattle.elements.specs.Given.{givenOf};
 ghost use Rattle.index.specs.Plan.{countedOf};
-ghost use Rattle.finds.specs.Found.{givenFound, spotOf};
+ghost use Rattle.where_label.specs.Found.{givenFound, spotOf};
 ghost use Rattle.structs.specs.Written.{givenFlat, countedFlat, spotFlat};
 use elements::filled::Filled;
-use finds::found::Found;
+use where_label::found::Found;
 use index::labels::Indexed;
 
 // number 0: the text or the list is written, place is its length; or place is the number of an element. Else a refusal:

@@ -9,13 +9,13 @@ use denote.Triple.Table.{cited}
 use Rattle.lists.proofs.Elem.{bytes, lent, number, elem, ref, ty}
 use Rattle.index.proofs.Elems.{entry}
 use Rattle.elements.specs.Given.{Fills}
-use Rattle.finds.specs.Found.{insideDue}
-use Rattle.finds.proofs.Data.{numbers-mut, rectangle}
+use Rattle.where_label.specs.Found.{insideDue}
+use Rattle.where_label.proofs.Data.{numbers-mut, rectangle}
 use Rattle.laddertick_c.proofs.Data.{finding}
 use Rattle.laddertick_c.proofs.Flat as flat
-use Rattle.finds.proofs.find.inside as work
-use Rattle.finds.proofs.find.inside.Symbol as work-def
-use Rattle.finds.proofs.find.inside.Met as work-thm
+use Rattle.where_label.proofs.find.inside as work
+use Rattle.where_label.proofs.find.inside.Symbol as work-def
+use Rattle.where_label.proofs.find.inside.Met as work-thm
 use Rattle.structs.proofs.written.of_found.Symbol as flat-def
 use Rattle.structs.proofs.written.of_found.Met as flat-thm
 use Rattle.laddertick_c.proofs.laddertick_inside.Key.{name}
@@ -27,5 +27,5 @@ unfolding code.routine
 laddertick-inside-spec 𝓤 H 𝓜 𝓖 𝓡 =
     flat.law 3 (work.signature .params) (work.ended .kept) finding (λ κs a e. Fills (now (e .1 .1 .1 .1 .0)) (now (a .1 .1 .1 .1 .0)) (insideDue (now (a .0)) (now (a .1 .0)) (a .1 .1 .0) (a .1 .1 .1 .0)))
     (sliceTy (tyRef (named 0) imm (tyInt w8)) ∷ sliceTy (ref entry 1 imm) ∷ tyInt w64 ∷ ty rectangle ∷ []) 2 usize work-def.name flat-def.name 𝓤 H 𝓜 𝓖 𝓡 code.env (λ κs. (bytes (named 0) (κs .0), (lent entry (named 1) (κs .1 .0), (number, (elem rectangle, (numbers-mut (named 2) (κs .1 .1 .0), tt)))))) (λ κs a. a .1 .1 .1 .1 .0) (λ κs a. refl) (λ κs a w. w) name (code.unfolded 𝓤 H 𝓜 𝓡)
-    (cited 𝓤 H _ 𝓜 𝓡 code.env work-def.name work-def.routine code.calls-finds·find·inside (work-thm.met 𝓤 H 𝓜 𝓖 𝓡))
+    (cited 𝓤 H _ 𝓜 𝓡 code.env work-def.name work-def.routine code.calls-where-label·find·inside (work-thm.met 𝓤 H 𝓜 𝓖 𝓡))
     (cited 𝓤 H _ 𝓜 𝓡 code.env flat-def.name flat-def.routine code.calls-structs·written·of-found (flat-thm.met 𝓤 H 𝓜 𝓖 𝓡))
