@@ -13,12 +13,12 @@ use Rattle.index.specs.declared.entry.LabelEntry.{LabelEntry}
 use Rattle.index.specs.Entries.{noEntry}
 use Rattle.opening.specs.Opened as opening
 use Rattle.dots.specs.declared.element.Element300.{Element300}
-use Rattle.converting.specs.Conversion.{Drawn, DrawnOpening, Conversion, converts, denied, conversionBy, drawnOf, Converts}
-use Rattle.converting.specs.declared.label.Label300.{Label300}
-use Rattle.converting.specs.Promise.{Denied, Resolved}
-use Rattle.converting.proofs.PlacedLaws as placed
-use Rattle.converting.proofs.PromiseLaws.{denies, resolved, opening-placed, placed-denies, placed-opens}
-use Rattle.converting.proofs.BeginsLaws.{OfLabel, label-begins}
+use Rattle.dots_label.specs.Conversion.{Drawn, DrawnOpening, Conversion, converts, denied, conversionBy, drawnOf, Converts}
+use Rattle.dots_label.specs.declared.label.Label300.{Label300}
+use Rattle.dots_label.specs.Promise.{Denied, Resolved}
+use Rattle.dots_label.proofs.PlacedLaws as placed
+use Rattle.dots_label.proofs.PromiseLaws.{denies, resolved, opening-placed, placed-denies, placed-opens}
+use Rattle.dots_label.proofs.BeginsLaws.{OfLabel, label-begins}
 use Rattle.grammar.specs.Epl.{epl}
 use Rattle.laddertick.specs.Contracts.{Library}
 use Rattle.laddertick.specs.Framed.{Framed, framesOf}

@@ -18,7 +18,7 @@ use Rattle.elements.specs.Given.{longest, text, denied}
 use Rattle.structs.specs.declared.answer.Element.{Element}
 use Rattle.structs.specs.Flat.{flatElement}
 use Rattle.dots.specs.declared.element.Element300.{Element300}
-use Rattle.converting.specs.Promise.{Turned}
+use Rattle.dots_label.specs.Promise.{Turned}
 use Rattle.spellings.specs.Due.{noLabel, labelDue}
 use Rattle.spellings.specs.Spelled.{spellLabel}
 use Rattle.spellings.specs.Writable.{writable}

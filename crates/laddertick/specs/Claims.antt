@@ -77,8 +77,8 @@ use Rattle.walk_theory.specs.Index as theory
 use Rattle.opening.specs.Opened as opening
 use Rattle.dots.specs.declared.element.Element300.{Element300}
 use Rattle.dots.specs.Length.{Near, Nearest, to300}
-use Rattle.converting.specs.Conversion.{Drawn, drawnOf}
-use Rattle.converting.specs.Promise.{Denied, Resolved}
+use Rattle.dots_label.specs.Conversion.{Drawn, drawnOf}
+use Rattle.dots_label.specs.Promise.{Denied, Resolved}
 use Rattle.laddertick.specs.Framed.{Framed}
 use Rattle.laddertick.specs.Converted as converted
 use Rattle.laddertick.specs.Contracts.{Library, Filling, Denies, Gives, DeniesList, GivesEntries, JoinDenies, JoinGives}

@@ -34,8 +34,8 @@ use Rattle.where_element.specs.declared.place.Rectangle.{Rectangle}
 use Rattle.where_label.specs.declared.found.Found.{Found}
 use Rattle.where_label.specs.Found.{insideDue, touchingDue, nearestDue, givenFound, spotOf}
 use Rattle.dots.specs.declared.element.Element300.{Element300}
-use Rattle.converting.specs.declared.label.Label300.{Label300}
-use Rattle.converting.specs.Conversion.{conversionOf, Converts}
+use Rattle.dots_label.specs.declared.label.Label300.{Label300}
+use Rattle.dots_label.specs.Conversion.{conversionOf, Converts}
 
 -- `step` answers r to the input s and the state w
 abbrev pub Stepped : List ℕ → WalkState → Answer → Type 0

@@ -19,8 +19,8 @@ use Rattle.structs.specs.Fields.{magnification, size, mode, font, horizontal, v
 use Rattle.structs.specs.Fields.{text-height, text-width, ratio}
 use Rattle.structs.specs.Flat.{drawn}
 use Rattle.dots.specs.declared.element.Element300.{Element300}
-use Rattle.converting.specs.Conversion as due
-use Rattle.converting.specs.Promise.{withDots}
+use Rattle.dots_label.specs.Conversion as due
+use Rattle.dots_label.specs.Promise.{withDots}
 use Rattle.laddertick.specs.Table.{Case, converts}
 
 -- How the rows are written: a flat element with its new lengths, read as one at 300 dots; a file of one label with its

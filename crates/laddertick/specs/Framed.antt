@@ -8,8 +8,8 @@ use Rattle.walk_theory.specs.Index as theory
 use Rattle.index.specs.declared.entry.LabelEntry.{LabelEntry}
 use Rattle.index.specs.Entries.{noEntry}
 use Rattle.file_listing.specs.Listing.{FramedLabel}
-use Rattle.converting.specs.Conversion.{Drawn, drawnOf}
-use Rattle.converting.specs.Promise.{AllBegin}
+use Rattle.dots_label.specs.Conversion.{Drawn, drawnOf}
+use Rattle.dots_label.specs.Promise.{AllBegin}
 
 -- the frames of these elements in the string t
 abbrev pub framesOf : List ℕ → List Drawn → List (List ℕ)

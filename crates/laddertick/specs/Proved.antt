@@ -47,8 +47,8 @@ use Rattle.where_label.proofs.find.touching.Statement as touching
 use Rattle.where_label.proofs.find.touching as touching-fn
 use Rattle.where_label.proofs.nearest.nearest.Statement as nearest
 use Rattle.where_label.proofs.nearest.nearest as nearest-fn
-use Rattle.converting.proofs.label.to_300.Statement as to-300
-use Rattle.converting.proofs.label.to_300 as to-300-fn
+use Rattle.dots_label.proofs.label.to_300.Statement as to-300
+use Rattle.dots_label.proofs.label.to_300 as to-300-fn
 use Rattle.writing.proofs.write.write.Statement as write
 use Rattle.writing.proofs.write.write.Kinds as write-kinds
 use Rattle.writing.proofs.write.write.Reads as write-reads

@@ -24,7 +24,7 @@ use Rattle.index.specs.declared.entry.LabelEntry.{LabelEntry}
 use Rattle.index.specs.Plan.{EplFilling, fillingOf}
 use Rattle.opening.specs.Opened as opening
 use Rattle.joining.specs.Join.{fileOf, joinDueOf}
-use Rattle.converting.specs.Conversion.{Conversion, conversionOf}
+use Rattle.dots_label.specs.Conversion.{Conversion, conversionOf}
 
 abbrev pub EplState : Type 0
 EplState = State LabelPosition

@@ -13,7 +13,7 @@ use Rattle.elements.specs.Given.{longest, text, givenOf}
 use Rattle.structs.specs.declared.answer.Element.{Element}
 use Rattle.structs.specs.Flat.{flatElement}
 use Rattle.dots.specs.declared.element.Element300.{Element300}
-use Rattle.converting.specs.Promise.{withDots, Turned}
+use Rattle.dots_label.specs.Promise.{withDots, Turned}
 use Rattle.structs_read.specs.Unflat.{Stands, Sized}
 use Rattle.spellings.specs.Due.{labelDue}
 use Rattle.spellings.specs.Spelled.{spell, spellLabel}

@@ -79,7 +79,7 @@ use Rattle.laddertick_c.proofs.laddertick_write_label_300.Statement as 
 use Rattle.laddertick_c.proofs.laddertick_write_label_300.Met as write-label-300-met
 use Rattle.writing.specs.Plain.{plainDue}
 use Rattle.writing_label.specs.Label.{plainLabelDue, plainLabelDue300}
-use Rattle.converting.specs.Conversion.{conversionOf, Converts}
+use Rattle.dots_label.specs.Conversion.{conversionOf, Converts}
 use Rattle.laddertick_c.proofs.laddertick_to_300 as to-300-fn
 use Rattle.laddertick_c.proofs.laddertick_to_300.Statement as to-300
 use Rattle.laddertick_c.proofs.laddertick_to_300.Met as to-300-met

@@ -12,7 +12,7 @@ ghost use Rattle.file_listing.specs.Listing as listing;
 ghost use Rattle.index.specs.Plan.{Indexes, fillingOf};
 ghost use Rattle.joining.specs.Join.{Joins};
 ghost use Rattle.opening.specs.Opened as opening;
-ghost use Rattle.converting.specs.Conversion.{conversionOf, Converts};
+ghost use Rattle.dots_label.specs.Conversion.{conversionOf, Converts};
 ghost use Rattle.strict.specs.Verdict.{checkedOf};
 ghost use Rattle.strict.specs.Listing.{strictDueOf};
 ghost use Rattle.elements.specs.Walk.{fresh};

@@ -22,11 +22,11 @@ use Rattle.lists.proofs.Elem.{row-of, elem, made-of, bytes, number, lent, lent-
 use Rattle.lists.proofs.Steps.{frees}
 use Rattle.lists.proofs.Walks.{walked, calls, typed}
 use Rattle.index.proofs.Elems.{entry}
-use Rattle.converting.proofs.Elems.{element, answer}
-use Rattle.converting.specs.Conversion.{conversionOf, Converts}
-use Rattle.converting.proofs.label.to_300 as work
-use Rattle.converting.proofs.label.to_300.Symbol as work-def
-use Rattle.converting.proofs.label.to_300.Met as work-thm
+use Rattle.dots_label.proofs.Elems.{element, answer}
+use Rattle.dots_label.specs.Conversion.{conversionOf, Converts}
+use Rattle.dots_label.proofs.label.to_300 as work
+use Rattle.dots_label.proofs.label.to_300.Symbol as work-def
+use Rattle.dots_label.proofs.label.to_300.Met as work-thm
 use Rattle.laddertick_c.proofs.laddertick_to_300 as fn
 use Rattle.laddertick_c.proofs.laddertick_to_300.Key.{name}
 use Rattle.laddertick_c.proofs.laddertick_to_300.Statement.{statement}
@@ -47,7 +47,7 @@ laddertick-to-300-spec 𝓤 H 𝓜 𝓖 𝓡 =
     assigns ! (addr ! (from ! (fld ! refl (hop ! (look-in ! 4 (sub ! 0 refl (whole !))) (stop !))))) (from ! (stop !)) (init ! 2 refl (tt, tt)) $
     assigns ! (agg ! (and-then ! (load ! (from ! (stop !)) (look ! 2 refl)) (and-then ! (load ! (from ! (fld ! refl (stop !))) (look-in ! 4 (sub ! 1 refl (whole !)))) (no-more !)))) (from ! (stop !)) (init ! 0 refl (tt, (tt, (wt .1 .1 .1 .0 .1 .1 .0, tt)))) $
     move ! (14 ∷ 15 ∷ []) $
-    calls ! fm work.ended (work.clauses 𝓤 H (𝓖 .A) (𝓜 .mem) (𝓡 .run)) (cited 𝓤 H _ 𝓜 𝓡 code.env work-def.name work-def.routine code.calls-converting·label·to-300 (work-thm.met 𝓤 H 𝓜 𝓖 𝓡))
+    calls ! fm work.ended (work.clauses 𝓤 H (𝓖 .A) (𝓜 .mem) (𝓡 .run)) (cited 𝓤 H _ 𝓜 𝓡 code.env work-def.name work-def.routine code.calls-dots-label·label·to-300 (work-thm.met 𝓤 H 𝓜 𝓖 𝓡))
     ((κs, qs, tt, (s, (x, (i, (y, tt)))), (slice-vals s, (slice-vals x, (uint-vals w64 i, (slice-vals y, tt))))), tt) (id⊢ 𝓤 _)
     (λ r e. Converts (now (e .1 .1 .1 .0)) (now y) (conversionOf (now s) (now x) i (length (now y))) r) (λ r e. id⊢ 𝓤 _)
     (and-then ! (load ! (from ! (stop !)) (look ! 11 refl)) (and-then ! (load ! (from ! (stop !)) (look ! 9 refl)) (and-then ! (load ! (from ! (stop !)) (look ! 7 refl)) (and-then ! (load ! (from ! (stop !)) (look ! 1 refl)) (no-more !))))) (λ u d ws done is.
