@@ -38,8 +38,8 @@ use Rattle.index.specs.declared.labels.Indexed.the-variants as indexed
 use Rattle.index.specs.Entries.{EplEntry, entryOf, entriesOf, entriesFrom, noEntry}
 use Rattle.index.specs.Plan as plan
 use Rattle.index.specs.Plan.{Counted, EplFilling, counted, refused, countedOf, listOf, fillingOf, Indexes}
-use Rattle.opening.specs.Opened.{FramedOpening, openingDue, dueOf, entryDue}
-use Rattle.opening.proofs.FirstLaws.{due-found, entry-long, entry-past, entry-beyond, entry-backwards, entry-walked}
+use Rattle.label_opening.specs.Opened.{FramedOpening, openingDue, dueOf, entryDue}
+use Rattle.label_opening.proofs.FirstLaws.{due-found, entry-long, entry-past, entry-beyond, entry-backwards, entry-walked}
 use Rattle.laddertick.specs.Contracts as contracts
 use Rattle.laddertick.specs.Contracts.{Library, Entering, Denies, Gives, DeniesList, GivesEntries}
 use Rattle.laddertick.specs.Walked.{Next, on-from, over, next, Walked, stop, go-on, answered}

@@ -28,7 +28,7 @@ use Rattle.grammar.proofs.FoundLaws.{reads}
 use Rattle.walk.specs.Steps.{EplAnswer, EplTrace}
 use Rattle.index.specs.declared.entry.LabelEntry.{LabelEntry}
 use Rattle.index.specs.Entries.{EplEntry, entriesOf}
-use Rattle.opening.specs.Opened.{FramedOpening, openingDue, dueOf}
+use Rattle.label_opening.specs.Opened.{FramedOpening, openingDue, dueOf}
 use Rattle.where_element.specs.declared.place.Rectangle.{Rectangle}
 use Rattle.where_element.specs.Place.{isTurned, isTouching, Shared}
 use Rattle.where_element.specs.Element.{insideOf, touchingOf, nearestOf, distances, FirstLeast}

@@ -11,7 +11,7 @@ use Rattle.walk_theory.specs.Index as theory
 use Rattle.file_listing.specs.Listing.{FramedLabel}
 use Rattle.index.specs.declared.entry.LabelEntry.{LabelEntry}
 use Rattle.index.specs.Entries.{noEntry}
-use Rattle.opening.specs.Opened as opening
+use Rattle.label_opening.specs.Opened as opening
 use Rattle.dots.specs.declared.element.Element300.{Element300}
 use Rattle.dots_label.specs.Conversion.{Drawn, DrawnOpening, Conversion, converts, denied, conversionBy, drawnOf, Converts}
 use Rattle.dots_label.specs.declared.label.Label300.{Label300}

@@ -74,7 +74,7 @@ use Rattle.where_label.specs.declared.found.Found.the-variants as found
 use Rattle.where_label.specs.Found as spots
 use Rattle.where_label.specs.Found.{itself, openingOf, spotOf}
 use Rattle.walk_theory.specs.Index as theory
-use Rattle.opening.specs.Opened as opening
+use Rattle.label_opening.specs.Opened as opening
 use Rattle.dots.specs.declared.element.Element300.{Element300}
 use Rattle.dots.specs.Length.{Near, Nearest, to300}
 use Rattle.dots_label.specs.Conversion.{Drawn, drawnOf}

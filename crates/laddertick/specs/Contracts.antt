@@ -27,7 +27,7 @@ use Rattle.index.specs.declared.entry.LabelEntry.{LabelEntry}
 use Rattle.index.specs.declared.labels.Indexed.{Indexed}
 use Rattle.index.specs.Plan as plan
 use Rattle.index.specs.Plan.{Indexes, fillingOf, countedOf, counted}
-use Rattle.opening.specs.Opened as opening
+use Rattle.label_opening.specs.Opened as opening
 use Rattle.joining.specs.declared.answer.Joined.{Joined}
 use Rattle.joining.specs.Join.{Joins}
 use Rattle.where_element.specs.declared.place.Rectangle.{Rectangle}

@@ -22,7 +22,7 @@ use Rattle.strict.specs.Verdict.{checkedOf}
 use Rattle.strict.specs.Listing.{strictDueOf}
 use Rattle.index.specs.declared.entry.LabelEntry.{LabelEntry}
 use Rattle.index.specs.Plan.{EplFilling, fillingOf}
-use Rattle.opening.specs.Opened as opening
+use Rattle.label_opening.specs.Opened as opening
 use Rattle.joining.specs.Join.{fileOf, joinDueOf}
 use Rattle.dots_label.specs.Conversion.{Conversion, conversionOf}
 

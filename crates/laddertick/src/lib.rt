@@ -58,7 +58,7 @@ pub use index::labels::Indexed;
 pub use index::labels::index;
 pub use joining::answer::Joined;
 pub use joining::join::join;
-pub use opening::label::open_label;
+pub use label_opening::label::open_label;
 pub use where_element::place::Rectangle;
 pub use strict::check::check;
 pub use strict::listing::strict_list;

@@ -14,7 +14,7 @@ use Rattle.where_label.specs.Found.{givenFound, spotOf}
 use Rattle.where_label.proofs.Data.{found}
 use Rattle.index.specs.Plan.{Counted, countedOf}
 use Rattle.index.proofs.Elems.{indexed}
-use Rattle.opening.proofs.Data.{filled}
+use Rattle.label_opening.proofs.Data.{filled}
 use Rattle.structs.specs.Written.{givenFlat, countedFlat, spotFlat}
 use Rattle.structs.proofs.written.Written as T
 use Rattle.structs.proofs.written.Written.Laws as T′

@@ -17,7 +17,7 @@ use Rattle.format.specs.Normalise as normal
 use Rattle.strict.specs.Verdict.{checkedOf}
 use Rattle.strict.specs.Listing.{strictDueOf}
 use Rattle.index.specs.Plan.{Indexes, fillingOf}
-use Rattle.opening.specs.Opened as opening
+use Rattle.label_opening.specs.Opened as opening
 use Rattle.joining.specs.Join.{Joins}
 use Rattle.laddertick.specs.Proved.{Owes, Says}
 use Rattle.laddertick_c.proofs.laddertick_start.Statement as start

@@ -11,7 +11,7 @@ ghost use Rattle.format.specs.Normalise as normalise;
 ghost use Rattle.file_listing.specs.Listing as listing;
 ghost use Rattle.index.specs.Plan.{Indexes, fillingOf};
 ghost use Rattle.joining.specs.Join.{Joins};
-ghost use Rattle.opening.specs.Opened as opening;
+ghost use Rattle.label_opening.specs.Opened as opening;
 ghost use Rattle.dots_label.specs.Conversion.{conversionOf, Converts};
 ghost use Rattle.strict.specs.Verdict.{checkedOf};
 ghost use Rattle.strict.specs.Listing.{strictDueOf};

@@ -15,7 +15,7 @@ use Rattle.walk.specs.Steps.{EplTrace, stateOf, traceOf}
 use Rattle.walk.specs.declared.answer.Answer.{Answer}
 use Rattle.walk.specs.declared.answer.Answer.the-variants.{Element, Clear, Print, End, Refused}
 use Rattle.walk.proofs.WalkLaws.{onStep, begins, Moved, moved-by}
-use Rattle.opening.proofs.FirstLaws.{first-by}
+use Rattle.label_opening.proofs.FirstLaws.{first-by}
 use Rattle.where_label.specs.Found.{itself, foundIn}
 use Rattle.where_label.specs.Find.{leading, elementsFrom, isFound, foundOf, countIf, firstDue}
 use Rattle.where_label.proofs.FindLaws.{elements-by, count-cons, count-le}

@@ -9,10 +9,10 @@ use Rattle.elements.specs.Given.{Due, denied, Fills, longest}
 use Rattle.elements.specs.declared.LabelElement.{LabelElement}
 use Rattle.elements.proofs.GivenLaws.{fills-denied, within-long, within-short}
 use Rattle.elements.specs.declared.walk_state.WalkState.{WalkState}
-use Rattle.opening.specs.Opened.{startOf, startedOpening}
-use Rattle.opening.specs.declared.start.Start.{Start}
-use Rattle.opening.specs.declared.start.Start.the-variants.{At, Denied}
-use Rattle.opening.proofs.FirstLaws.{start-at}
+use Rattle.label_opening.specs.Opened.{startOf, startedOpening}
+use Rattle.label_opening.specs.declared.start.Start.{Start}
+use Rattle.label_opening.specs.declared.start.Start.the-variants.{At, Denied}
+use Rattle.label_opening.proofs.FirstLaws.{start-at}
 use Rattle.where_element.specs.Place.{isTurned}
 use Rattle.where_label.specs.Found.{itself, foundIn, givenFound}
 use Rattle.where_label.specs.Find.{foundOf, startedDue}

@@ -2,7 +2,7 @@
 use mathlib.Core.Path.{ap}
 use denote.Triple.Table.{cited}
 use Rattle.elements.specs.declared.LabelElement.{LabelElement}
-use Rattle.opening.proofs.FirstLaws.{started}
+use Rattle.label_opening.proofs.FirstLaws.{started}
 use Rattle.where_element.specs.Element.{insideOf}
 use Rattle.where_label.specs.Found.{ElementOpening, itself, foundIn, checked, insideDue}
 use Rattle.where_label.specs.Find.{insideEntry}

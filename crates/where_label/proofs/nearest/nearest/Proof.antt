@@ -28,7 +28,7 @@ use Rattle.index.proofs.Elems.{entry}
 use Rattle.lists.proofs.Elem.{row-of, vals, elem, bytes, lent, number, made-of}
 use Rattle.lists.proofs.Steps.{frees, Token, apart, together, beside}
 use Rattle.lists.proofs.Walks.{walked, calls-plain, calls-with, typed}
-use Rattle.opening.proofs.FirstLaws.{started}
+use Rattle.label_opening.proofs.FirstLaws.{started}
 use Rattle.where_label.specs.Found.{ElementOpening, itself, nearestIn, spotOf}
 use Rattle.where_label.specs.Nearest.{nearestEntry}
 use Rattle.where_label.proofs.Data.{point, found}

@@ -6,10 +6,10 @@ use lib.ListN.{length}
 use lib.Seq.{length-take-le}
 use Rattle.elements.specs.declared.LabelElement.{LabelElement}
 use Rattle.elements.specs.declared.walk_state.WalkState.{WalkState}
-use Rattle.opening.specs.Opened.{startedOpening}
-use Rattle.opening.specs.declared.start.Start.{Start}
-use Rattle.opening.specs.declared.start.Start.the-variants.{At, Denied}
-use Rattle.opening.proofs.FirstLaws.{start-at}
+use Rattle.label_opening.specs.Opened.{startedOpening}
+use Rattle.label_opening.specs.declared.start.Start.{Start}
+use Rattle.label_opening.specs.declared.start.Start.the-variants.{At, Denied}
+use Rattle.label_opening.proofs.FirstLaws.{start-at}
 use Rattle.where_label.specs.Found.{itself, nearestIn}
 use Rattle.where_label.specs.Nearest.{nearestEntry}
 use borrow.Author.Needs.{needs}

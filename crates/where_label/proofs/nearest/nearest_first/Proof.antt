@@ -15,7 +15,7 @@ use Rattle.walk.specs.Steps.{EplTrace, traceOf}
 use Rattle.walk.specs.declared.answer.Answer.{Answer}
 use Rattle.walk.specs.declared.answer.Answer.the-variants.{Element, Clear, Print, End, Refused}
 use Rattle.walk.proofs.WalkLaws.{onStep, begins, Moved, moved-by}
-use Rattle.opening.specs.Opened.{firstFrom}
+use Rattle.label_opening.specs.Opened.{firstFrom}
 use Rattle.where_element.specs.Element.{nearestOf, positionOf}
 use Rattle.where_element.specs.Place.{distance}
 use Rattle.where_label.specs.Found.{element, itself, nearestIn}

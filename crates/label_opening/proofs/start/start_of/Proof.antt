@@ -1,7 +1,7 @@
--- `opening::start::start_of` meets its contract: the tests in their order. Assumes nothing.
+-- `label_opening::start::start_of` meets its contract: the tests in their order. Assumes nothing.
 use borrow.Author.Tests.{lt-ltb, le-ltb}
-use Rattle.opening.proofs.start.start_of.Statement.{statement}
-use Rattle.opening.proofs.start.start_of.Tie as tie
+use Rattle.label_opening.proofs.start.start_of.Statement.{statement}
+use Rattle.label_opening.proofs.start.start_of.Tie as tie
 
 returns : tie.Need-returns
 returns c = simp (lt-ltb 16777216 (c .before .args .len) (c .if1 .taken))

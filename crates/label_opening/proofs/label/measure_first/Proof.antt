@@ -1,4 +1,4 @@
--- `opening::label::measure_first` meets its contract. Invariant: the label is the first from `first` on, only elements
+-- `label_opening::label::measure_first` meets its contract. Invariant: the label is the first from `first` on, only elements
 -- stand between `first` and here, and their lines are counted. Measure: what is left of the walk. Assumes nothing.
 use mathlib.Core.Path.{_≡_, refl, ap, _∙_}
 use mathlib.Core.List.{List}
@@ -18,11 +18,11 @@ use Rattle.walk.specs.declared.answer.Answer.the-variants.{Element, Clear, Prin
 use Rattle.walk.proofs.WalkLaws.{onStep, Moved, moved-by}
 use Rattle.file_listing.specs.Listing.{linesOf, frontFrames}
 use Rattle.file_listing.proofs.ListingLaws.{lead-by, after-by, length-label, frame-len-le, frame-len-is}
-use Rattle.opening.specs.Opened.{openingDue, firstDue}
-use Rattle.opening.proofs.FirstLaws.{first-by}
+use Rattle.label_opening.specs.Opened.{openingDue, firstDue}
+use Rattle.label_opening.proofs.FirstLaws.{first-by}
 use borrow.Author.Needs.{needs}
-use Rattle.opening.proofs.label.measure_first.Statement.{statement}
-use Rattle.opening.proofs.label.measure_first.Tie as tie
+use Rattle.label_opening.proofs.label.measure_first.Statement.{statement}
+use Rattle.label_opening.proofs.label.measure_first.Tie as tie
 
 -- an element takes a byte of the input at least, and at most 2 * 4294967295 + 1 bytes of the listing
 abbrev Inv-loop : tie.InvT-loop

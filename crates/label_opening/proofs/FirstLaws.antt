@@ -21,8 +21,8 @@ use Rattle.grammar.specs.Epl.{epl}
 use Rattle.walk.specs.Steps.{EplTrace, traceOf}
 use Rattle.index.specs.Entries.{entryOf, entriesOf, noEntry}
 use Rattle.index.specs.declared.entry.LabelEntry.{LabelEntry}
-use Rattle.opening.specs.Opened.{openingDue, dueOf, startAt, startOf, firstFrom, startedOpening, firstDue, entryDue}
-use Rattle.opening.specs.declared.start.Start.the-variants.{At, Denied}
+use Rattle.label_opening.specs.Opened.{openingDue, dueOf, startAt, startOf, firstFrom, startedOpening, firstDue, entryDue}
+use Rattle.label_opening.specs.declared.start.Start.the-variants.{At, Denied}
 
 -- ---- the entry with a number
 found-at : (es : List LabelEntry) (i : ℕ) → i < length es → getElem? (entriesOf es) i ≡ some (entryOf (getD es i noEntry))

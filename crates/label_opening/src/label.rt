@@ -1,6 +1,6 @@
 // One label's lines of the listing. Only its own bytes of the file are walked.
 ghost use Rattle.elements.specs.Given.{Fills, givenOf};
-ghost use Rattle.opening.specs.Opened.{dueOf, firstDue, entryDue, Finds};
+ghost use Rattle.label_opening.specs.Opened.{dueOf, firstDue, entryDue, Finds};
 use crate::start::Start;
 use crate::start::start_of;
 use elements::filled::Filled;

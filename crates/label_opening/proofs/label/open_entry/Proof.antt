@@ -1,4 +1,4 @@
--- `opening::label::open_entry` meets its contract: where the walk starts, then the walk of the file that is cut at the
+-- `label_opening::label::open_entry` meets its contract: where the walk starts, then the walk of the file that is cut at the
 -- entry's last place. Assumes nothing.
 use mathlib.Core.Path.{_≡_, sym, ap, subst, _∙_}
 use mathlib.Core.List.{List}
@@ -8,13 +8,13 @@ use lib.Seq.{length-take-le}
 use Rattle.frame_bytes.specs.Frame.{frameOf}
 use Rattle.elements.specs.Given.{Due, Fills, givenOf}
 use Rattle.elements.proofs.GivenLaws.{fills-denied}
-use Rattle.opening.specs.Opened.{openingDue, startedOpening, entryDue}
-use Rattle.opening.specs.declared.start.Start.{Start}
-use Rattle.opening.specs.declared.start.Start.the-variants.{At, Denied}
-use Rattle.opening.proofs.FirstLaws.{start-at}
+use Rattle.label_opening.specs.Opened.{openingDue, startedOpening, entryDue}
+use Rattle.label_opening.specs.declared.start.Start.{Start}
+use Rattle.label_opening.specs.declared.start.Start.the-variants.{At, Denied}
+use Rattle.label_opening.proofs.FirstLaws.{start-at}
 use borrow.Author.Needs.{needs}
-use Rattle.opening.proofs.label.open_entry.Statement.{statement}
-use Rattle.opening.proofs.label.open_entry.Tie as tie
+use Rattle.label_opening.proofs.label.open_entry.Statement.{statement}
+use Rattle.label_opening.proofs.label.open_entry.Tie as tie
 
 -- what is due, by the start that was matched
 due-by : (m : tie.After-start-of) (q : Start) → m .start-of .result ≡ q

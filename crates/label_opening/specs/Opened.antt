@@ -18,10 +18,10 @@ use Rattle.walk.specs.Steps.{traceOf}
 use Rattle.index.specs.Entries.{entriesOf}
 use Rattle.index.specs.declared.entry.LabelEntry.{LabelEntry}
 use Rattle.file_listing.specs.Listing.{labelLines, labelText}
-use Rattle.opening.specs.declared.label.Found.{Found}
-use Rattle.opening.specs.declared.label.Found.the-variants.{Label, NoLabel}
-use Rattle.opening.specs.declared.start.Start.{Start}
-use Rattle.opening.specs.declared.start.Start.the-variants.{At, Denied}
+use Rattle.label_opening.specs.declared.label.Found.{Found}
+use Rattle.label_opening.specs.declared.label.Found.the-variants.{Label, NoLabel}
+use Rattle.label_opening.specs.declared.start.Start.{Start}
+use Rattle.label_opening.specs.declared.start.Start.the-variants.{At, Denied}
 
 abbrev pub FramedOpening : Type 0
 FramedOpening = Opening (List ℕ) EplPrint

@@ -1,4 +1,4 @@
--- `opening::label::open_label` meets its contract: a walk of its MIR, by hand. The entry is taken out of the list, and
+-- `label_opening::label::open_label` meets its contract: a walk of its MIR, by hand. The entry is taken out of the list, and
 -- the buffer is passed on for good to `open_entry`, which does the work. Assumes nothing.
 use mathlib.Core.Path.{_≡_, refl, _∙_, ap, subst}
 use Prim.Native.Nat.{ℕ}
@@ -28,22 +28,22 @@ use Rattle.index.proofs.Elems.{entry}
 use Rattle.lists.proofs.Elem.{row-of, elem, bytes, lent, number, made-of}
 use Rattle.lists.proofs.Steps.{frees, Token, apart, apart3, together, together3, beside}
 use Rattle.lists.proofs.Walks.{walked, calls, calls-plain, calls-with, typed}
-use Rattle.opening.specs.Opened.{entryDue}
-use Rattle.opening.proofs.FirstLaws.{due-found}
-use Rattle.opening.proofs.Data.{bytes-mut, filled}
+use Rattle.label_opening.specs.Opened.{entryDue}
+use Rattle.label_opening.proofs.FirstLaws.{due-found}
+use Rattle.label_opening.proofs.Data.{bytes-mut, filled}
 use Rattle.index.proofs.entry.no_entry as none-fn
 use Rattle.index.proofs.entry.no_entry.Symbol as none-fn-def
 use Rattle.index.proofs.entry.no_entry.Met as none-fn-thm
 use Rattle.index.proofs.entry.entry_or as get
 use Rattle.index.proofs.entry.entry_or.Symbol as get-def
 use Rattle.index.proofs.entry.entry_or.Met as get-thm
-use Rattle.opening.proofs.label.open_entry as work
-use Rattle.opening.proofs.label.open_entry.Symbol as work-def
-use Rattle.opening.proofs.label.open_entry.Met as work-thm
-use Rattle.opening.proofs.label.open_label as fn
-use Rattle.opening.proofs.label.open_label.Key.{name}
-use Rattle.opening.proofs.label.open_label.Statement.{statement}
-use Rattle.opening.proofs.label.open_label.Code as code
+use Rattle.label_opening.proofs.label.open_entry as work
+use Rattle.label_opening.proofs.label.open_entry.Symbol as work-def
+use Rattle.label_opening.proofs.label.open_entry.Met as work-thm
+use Rattle.label_opening.proofs.label.open_label as fn
+use Rattle.label_opening.proofs.label.open_label.Key.{name}
+use Rattle.label_opening.proofs.label.open_label.Statement.{statement}
+use Rattle.label_opening.proofs.label.open_label.Code as code
 
 pub open-label-spec : {M : Type 1} → statement M
 unfolding code.routine
@@ -79,7 +79,7 @@ open-label-spec 𝓤 H 𝓜 𝓖 𝓡 =
     -- the buffer is passed on for good
     move ! (25 ∷ []) $ use1 W (‵ _) (beside 𝓤 H (𝓖 .A) Out (usize ∷ usize ∷ row-of entry ∷ []) (mk, (mk, (made-of entry 𝓤 H (𝓖 .A), tt))) (m, (i, (e, tt))) (uint-vals w64 m, (uint-vals w64 i, (v₂ ∷ [], tt))) ((refl, wt .1 .0 .1 .1 .0 .fits), (are .1 .1 .0, (is₂, tt)))) $ move ! (24 ∷ 0 ∷ []) $ fjoin ! $
     move ! (23 ∷ 24 ∷ []) $ use2 W (raw (alive 𝓤 H (𝓖 .A) work.signature (κs .0, (κs .1 .1 .0, tt)) (qs .0, (qs .1 .1 .0, tt)))) (together 𝓤 H (𝓖 .A) W (κs .0) (κs .1 .1 .0) (qs .0) (qs .1 .1 .0)) $
-    calls ! fm work.ended (work.clauses 𝓤 H (𝓖 .A) (𝓜 .mem) (𝓡 .run)) (cited 𝓤 H _ 𝓜 𝓡 code.env work-def.name work-def.routine code.calls-opening·label·open-entry (work-thm.met 𝓤 H 𝓜 𝓖 𝓡))
+    calls ! fm work.ended (work.clauses 𝓤 H (𝓖 .A) (𝓜 .mem) (𝓡 .run)) (cited 𝓤 H _ 𝓜 𝓡 code.env work-def.name work-def.routine code.calls-label-opening·label·open-entry (work-thm.met 𝓤 H 𝓜 𝓖 𝓡))
     (((κs .0, (κs .1 .1 .0, tt)), (qs .0, (qs .1 .1 .0, tt)), tt, (s, (y, (m, (i, (e, tt))))), (slice-vals s, (slice-vals y, (uint-vals w64 m, (uint-vals w64 i, (v₂ ∷ [], tt)))))), tt) (id⊢ 𝓤 _)
     (λ r z. Fills (now (z .1 .0)) (now y) (entryDue (now s) m i e) (given.givenOf r)) (λ r z. id⊢ 𝓤 _)
     (and-then ! (load ! (from ! (stop !)) (look ! 19 refl)) (and-then ! (load ! (from ! (stop !)) (look ! 5 refl)) (and-then ! (load ! (from ! (stop !)) (look ! 3 refl)) (and-then ! (load ! (from ! (stop !)) (look ! 15 refl)) (and-then ! (load ! (from ! (stop !)) (look ! 11 refl)) (no-more !)))))) (λ z r ws done is₃.

@@ -1,6 +1,6 @@
 // Where the walk of one label starts, by its entry.
 ghost use mathlib.Core.Path.{_≡_};
-ghost use Rattle.opening.specs.Opened.{startOf};
+ghost use Rattle.label_opening.specs.Opened.{startOf};
 use elements::refusal::LONGEST;
 use elements::refusal::Refusal;
 use elements::walk_state::WalkState;

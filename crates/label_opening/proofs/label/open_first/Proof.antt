@@ -1,14 +1,14 @@
--- `opening::label::open_first` meets its contract: the first pass says what is due, and only what fits is written.
+-- `label_opening::label::open_first` meets its contract: the first pass says what is due, and only what fits is written.
 -- Assumes nothing.
 use mathlib.Core.Path.{_≡_, subst}
 use native.Mathlib.Omega.{arith}
 use Rattle.elements.proofs.GivenLaws.{fills-denied, fills-short, fills-written}
-use Rattle.opening.specs.declared.label.Found.{Found}
-use Rattle.opening.specs.declared.label.Found.the-variants.{Label, NoLabel}
-use Rattle.opening.specs.Opened.{firstDue, Finds}
+use Rattle.label_opening.specs.declared.label.Found.{Found}
+use Rattle.label_opening.specs.declared.label.Found.the-variants.{Label, NoLabel}
+use Rattle.label_opening.specs.Opened.{firstDue, Finds}
 use borrow.Author.Needs.{needs}
-use Rattle.opening.proofs.label.open_first.Statement.{statement}
-use Rattle.opening.proofs.label.open_first.Tie as tie
+use Rattle.label_opening.proofs.label.open_first.Statement.{statement}
+use Rattle.label_opening.proofs.label.open_first.Tie as tie
 
 -- what was found, by the answer that was matched
 told : (d : tie.After-measure-first) (q : Found) → d .measure-first .result ≡ q
