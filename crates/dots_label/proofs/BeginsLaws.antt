@@ -23,8 +23,8 @@ use Rattle.walk_theory.proofs.TraceLaws.{goes-by}
 use Rattle.grammar.specs.Units.{EplUnit, bytes}
 use Rattle.grammar.specs.Epl.{EplPrint, epl}
 use Rattle.grammar.proofs.FoundLaws.{reads}
-use Rattle.index.specs.Entries.{entryOf, entriesOf, noEntry}
-use Rattle.index.specs.declared.entry.LabelEntry.{LabelEntry}
+use Rattle.label_index.specs.Entries.{entryOf, entriesOf, noEntry}
+use Rattle.label_index.specs.declared.entry.LabelEntry.{LabelEntry}
 use Rattle.dots_label.specs.Placed.{placed, placedAct}
 use Rattle.dots_label.specs.Conversion.{Drawn, DrawnOpening, drawnOf}
 use Rattle.dots_label.specs.Promise.{Begins, AllBegin}

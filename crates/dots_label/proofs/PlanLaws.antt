@@ -17,8 +17,8 @@ use Rattle.elements.specs.Given.{longest}
 use Rattle.lists.specs.Filled.{made}
 use Rattle.walk_theory.specs.Index.{denies, openingBy, openingFound}
 use Rattle.grammar.specs.Epl.{EplPrint, epl}
-use Rattle.index.specs.Entries.{entryOf, entriesOf, noEntry}
-use Rattle.index.specs.declared.entry.LabelEntry.{LabelEntry}
+use Rattle.label_index.specs.Entries.{entryOf, entriesOf, noEntry}
+use Rattle.label_index.specs.declared.entry.LabelEntry.{LabelEntry}
 use Rattle.structs.specs.Flat.{flatElement}
 use Rattle.dots.specs.declared.element.Element300.{Element300}
 use Rattle.dots.specs.Element as one

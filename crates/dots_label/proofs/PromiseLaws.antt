@@ -24,8 +24,8 @@ use Rattle.walk_theory.specs.Index.{firstIn, openingBy, openingFound, opening}
 use Rattle.walk_theory.specs.Step.{State, state}
 use Rattle.walk_theory.specs.Trace.{trace}
 use Rattle.grammar.specs.Epl.{EplPrint, epl}
-use Rattle.index.specs.Entries.{EplEntry, entryOf, entriesOf, noEntry}
-use Rattle.index.specs.declared.entry.LabelEntry.{LabelEntry}
+use Rattle.label_index.specs.Entries.{EplEntry, entryOf, entriesOf, noEntry}
+use Rattle.label_index.specs.declared.entry.LabelEntry.{LabelEntry}
 use Rattle.structs.specs.Flat.{flatElement}
 use Rattle.dots.specs.declared.element.Element300.{Element300}
 use Rattle.dots.specs.Length.{to300}

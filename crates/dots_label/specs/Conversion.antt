@@ -11,8 +11,8 @@ use Rattle.elements.specs.declared.LabelElement.{LabelElement}
 use Rattle.walk_theory.specs.Index as index
 use Rattle.walk_theory.specs.Index.{Opening, opens, opening}
 use Rattle.grammar.specs.Epl.{EplPrint, epl}
-use Rattle.index.specs.Entries.{entriesOf}
-use Rattle.index.specs.declared.entry.LabelEntry.{LabelEntry}
+use Rattle.label_index.specs.Entries.{entriesOf}
+use Rattle.label_index.specs.declared.entry.LabelEntry.{LabelEntry}
 use Rattle.structs.specs.Flat.{flatElement}
 use Rattle.dots.specs.declared.element.Element300.{Element300}
 use Rattle.dots.specs.Element as dots

@@ -17,8 +17,8 @@ use Rattle.walk_theory.specs.Trace.{Trace, trace, lead}
 use Rattle.grammar.specs.Epl.{EplPrint, epl}
 use Rattle.grammar.specs.Size.{unitSize}
 use Rattle.walk.specs.Steps.{EplAnswer, stateOf}
-use Rattle.index.specs.Entries.{entryOf}
-use Rattle.index.specs.declared.entry.LabelEntry.{LabelEntry}
+use Rattle.label_index.specs.Entries.{entryOf}
+use Rattle.label_index.specs.declared.entry.LabelEntry.{LabelEntry}
 use Rattle.structs.specs.Flat.{flatElement}
 use Rattle.structs.specs.Steps.{walkOf}
 use Rattle.dots.specs.declared.element.Element300.{Element300}

@@ -9,9 +9,9 @@ use crate::plan::plan_entry;
 use crate::plan::starting;
 use crate::plan::to_fill;
 use dots::element::Element300;
-use index::entry::LabelEntry;
-use index::entry::entry_or;
-use index::entry::no_entry;
+use label_index::entry::LabelEntry;
+use label_index::entry::entry_or;
+use label_index::entry::no_entry;
 
 // number 0: the list is filled, place is how many elements the label has, and sets and copies are its print's. Else a
 // refusal: its number and its place.

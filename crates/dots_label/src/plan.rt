@@ -12,7 +12,7 @@ use elements::refusal::LONGEST;
 use elements::refusal::Refusal;
 use elements::walk_state::WalkState;
 use elements::walk_state::start;
-use index::entry::LabelEntry;
+use label_index::entry::LabelEntry;
 use walk::answer::Answer;
 use walk::step::step;
 

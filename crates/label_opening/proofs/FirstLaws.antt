@@ -19,8 +19,8 @@ use Rattle.walk_theory.specs.Trace.{stops, refuses, yields, clears, prints, lea
 use Rattle.walk_theory.specs.Index.{denies, firstIn, openingBy, openingFound, opening}
 use Rattle.grammar.specs.Epl.{epl}
 use Rattle.walk.specs.Steps.{EplTrace, traceOf}
-use Rattle.index.specs.Entries.{entryOf, entriesOf, noEntry}
-use Rattle.index.specs.declared.entry.LabelEntry.{LabelEntry}
+use Rattle.label_index.specs.Entries.{entryOf, entriesOf, noEntry}
+use Rattle.label_index.specs.declared.entry.LabelEntry.{LabelEntry}
 use Rattle.label_opening.specs.Opened.{openingDue, dueOf, startAt, startOf, firstFrom, startedOpening, firstDue, entryDue}
 use Rattle.label_opening.specs.declared.start.Start.the-variants.{At, Denied}
 

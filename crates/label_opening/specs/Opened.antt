@@ -15,8 +15,8 @@ use Rattle.elements.specs.declared.walk_state.WalkState.{WalkState}
 use Rattle.walk_theory.specs.Index.{Opening, opens, denies, firstIn, opening}
 use Rattle.grammar.specs.Epl.{EplPrint, epl}
 use Rattle.walk.specs.Steps.{traceOf}
-use Rattle.index.specs.Entries.{entriesOf}
-use Rattle.index.specs.declared.entry.LabelEntry.{LabelEntry}
+use Rattle.label_index.specs.Entries.{entriesOf}
+use Rattle.label_index.specs.declared.entry.LabelEntry.{LabelEntry}
 use Rattle.file_listing.specs.Listing.{labelLines, labelText}
 use Rattle.label_opening.specs.declared.label.Found.{Found}
 use Rattle.label_opening.specs.declared.label.Found.the-variants.{Label, NoLabel}

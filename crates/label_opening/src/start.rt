@@ -4,7 +4,7 @@ ghost use Rattle.label_opening.specs.Opened.{startOf};
 use elements::refusal::LONGEST;
 use elements::refusal::Refusal;
 use elements::walk_state::WalkState;
-use index::entry::LabelEntry;
+use label_index::entry::LabelEntry;
 
 // The state that it starts at, and the place that the input is cut at; or a refusal and its place.
 pub enum Start {

@@ -72,12 +72,12 @@ use Rattle.strict.specs.Look.{endOf}
 use Rattle.strict.proofs.ListingLaws.{own-due}
 use Rattle.strict.proofs.VerdictLaws.{accepted-by, clean-listed, listed-accepted, refused-plain, objected-by}
 use Rattle.file_listing.proofs.ListingRoomLaws.{length-listing-le, never-short}
-use Rattle.index.specs.declared.entry.LabelEntry.{LabelEntry}
+use Rattle.label_index.specs.declared.entry.LabelEntry.{LabelEntry}
 use Rattle.walk_theory.specs.Join as theory-join
 use Rattle.joining.specs.Join.{joinedText, clearLine}
 use Rattle.joining.proofs.JoinLaws.{due-first, due-second, due-long, due-text}
 use Rattle.joining.proofs.EplLaws.{epl-joins}
-use Rattle.index.specs.Entries.{EplEntry, entriesFrom}
+use Rattle.label_index.specs.Entries.{EplEntry, entriesFrom}
 use Rattle.where_label.specs.Found.{itself, openingOf}
 use Rattle.laddertick.specs.Contracts.{Library, Gives, DeniesList}
 use Rattle.laddertick.specs.Walked.{Walked, answered}

@@ -33,11 +33,11 @@ use Rattle.walk.specs.declared.answer.Answer.{Answer}
 use Rattle.walk.specs.declared.answer.Answer.the-variants.{Element, Clear, Print, End, Refused}
 use Rattle.walk.specs.Steps.{stateOf, answerOf}
 use Rattle.file_listing.specs.Listing.{FramedLabel, labelLines}
-use Rattle.index.specs.declared.entry.LabelEntry.{LabelEntry}
-use Rattle.index.specs.declared.labels.Indexed.the-variants as indexed
-use Rattle.index.specs.Entries.{EplEntry, entryOf, entriesOf, entriesFrom, noEntry}
-use Rattle.index.specs.Plan as plan
-use Rattle.index.specs.Plan.{Counted, EplFilling, counted, refused, countedOf, listOf, fillingOf, Indexes}
+use Rattle.label_index.specs.declared.entry.LabelEntry.{LabelEntry}
+use Rattle.label_index.specs.declared.labels.Indexed.the-variants as indexed
+use Rattle.label_index.specs.Entries.{EplEntry, entryOf, entriesOf, entriesFrom, noEntry}
+use Rattle.label_index.specs.Plan as plan
+use Rattle.label_index.specs.Plan.{Counted, EplFilling, counted, refused, countedOf, listOf, fillingOf, Indexes}
 use Rattle.label_opening.specs.Opened.{FramedOpening, openingDue, dueOf, entryDue}
 use Rattle.label_opening.proofs.FirstLaws.{due-found, entry-long, entry-past, entry-beyond, entry-backwards, entry-walked}
 use Rattle.laddertick.specs.Contracts as contracts

@@ -26,8 +26,8 @@ use Rattle.walk_theory.proofs.TraceLaws.{goes-by}
 use Rattle.grammar.specs.Epl.{EplPrint, epl}
 use Rattle.grammar.proofs.FoundLaws.{reads}
 use Rattle.walk.specs.Steps.{EplAnswer, EplTrace}
-use Rattle.index.specs.declared.entry.LabelEntry.{LabelEntry}
-use Rattle.index.specs.Entries.{EplEntry, entriesOf}
+use Rattle.label_index.specs.declared.entry.LabelEntry.{LabelEntry}
+use Rattle.label_index.specs.Entries.{EplEntry, entriesOf}
 use Rattle.label_opening.specs.Opened.{FramedOpening, openingDue, dueOf}
 use Rattle.where_element.specs.declared.place.Rectangle.{Rectangle}
 use Rattle.where_element.specs.Place.{isTurned, isTouching, Shared}

@@ -29,8 +29,8 @@ use Rattle.grammar.specs.Ranges as ranges
 use Rattle.grammar.specs.Ranges.{Role, refAfter, roleOf}
 use Rattle.grammar.specs.Divided.{yieldedBy, pendingAfter, printedBy, labelsBy}
 use Rattle.walk.specs.Steps.{EplTrace}
-use Rattle.index.specs.declared.entry.LabelEntry.{LabelEntry}
-use Rattle.index.specs.Entries.{EplEntry}
+use Rattle.label_index.specs.declared.entry.LabelEntry.{LabelEntry}
+use Rattle.label_index.specs.Entries.{EplEntry}
 use Rattle.where_element.specs.Place.{isInside, distance}
 use Rattle.where_element.specs.Element.{isOnBy, numbersFrom, distances, FirstLeast}
 use Rattle.where_label.specs.Found.{ElementOpening, itself}

@@ -6,7 +6,7 @@ use Rattle.file_listing.proofs.listing.list.Met as list
 use Rattle.format.proofs.normalise.normalise.Met as normalise
 use Rattle.strict.proofs.check.check.Met as check
 use Rattle.strict.proofs.listing.strict_list.Met as strict-list
-use Rattle.index.proofs.labels.index.Met as index
+use Rattle.label_index.proofs.labels.index.Met as index
 use Rattle.label_opening.proofs.label.open_label.Met as open-label
 use Rattle.joining.proofs.join.join.Met as join
 use Rattle.where_label.proofs.find.inside.Met as inside

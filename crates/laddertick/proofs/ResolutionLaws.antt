@@ -9,8 +9,8 @@ use Rattle.frame_bytes.specs.Frame.{frameOf}
 use Rattle.elements.specs.Given.{longest}
 use Rattle.walk_theory.specs.Index as theory
 use Rattle.file_listing.specs.Listing.{FramedLabel}
-use Rattle.index.specs.declared.entry.LabelEntry.{LabelEntry}
-use Rattle.index.specs.Entries.{noEntry}
+use Rattle.label_index.specs.declared.entry.LabelEntry.{LabelEntry}
+use Rattle.label_index.specs.Entries.{noEntry}
 use Rattle.label_opening.specs.Opened as opening
 use Rattle.dots.specs.declared.element.Element300.{Element300}
 use Rattle.dots_label.specs.Conversion.{Drawn, DrawnOpening, Conversion, converts, denied, conversionBy, drawnOf, Converts}

@@ -64,9 +64,9 @@ use Rattle.file_listing.specs.Printing.{printedOf, shownOf}
 use Rattle.profile.specs.Asks.{InProfile, Objected}
 use Rattle.profile.specs.Strict.{Own}
 use Rattle.strict.specs.declared.verdict.Checked.{Checked}
-use Rattle.index.specs.declared.entry.LabelEntry.{LabelEntry}
-use Rattle.index.specs.declared.labels.Indexed.the-variants as indexed
-use Rattle.index.specs.Entries.{entriesOf}
+use Rattle.label_index.specs.declared.entry.LabelEntry.{LabelEntry}
+use Rattle.label_index.specs.declared.labels.Indexed.the-variants as indexed
+use Rattle.label_index.specs.Entries.{entriesOf}
 use Rattle.where_element.specs.declared.place.Rectangle.{Rectangle}
 use Rattle.where_element.specs.Place.{isTurned, isTouching, Shared}
 use Rattle.where_element.specs.Element.{insideOf, touchingOf, distances, FirstLeast}

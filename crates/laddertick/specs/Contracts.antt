@@ -23,10 +23,10 @@ use Rattle.format.specs.Normalise as normal
 use Rattle.strict.specs.declared.verdict.Checked.{Checked}
 use Rattle.strict.specs.Verdict.{checkedOf}
 use Rattle.strict.specs.Listing.{strictDueOf}
-use Rattle.index.specs.declared.entry.LabelEntry.{LabelEntry}
-use Rattle.index.specs.declared.labels.Indexed.{Indexed}
-use Rattle.index.specs.Plan as plan
-use Rattle.index.specs.Plan.{Indexes, fillingOf, countedOf, counted}
+use Rattle.label_index.specs.declared.entry.LabelEntry.{LabelEntry}
+use Rattle.label_index.specs.declared.labels.Indexed.{Indexed}
+use Rattle.label_index.specs.Plan as plan
+use Rattle.label_index.specs.Plan.{Indexes, fillingOf, countedOf, counted}
 use Rattle.label_opening.specs.Opened as opening
 use Rattle.joining.specs.declared.answer.Joined.{Joined}
 use Rattle.joining.specs.Join.{Joins}

@@ -10,7 +10,7 @@ use Rattle.text.specs.Ascii.{ascii}
 use Rattle.elements.specs.declared.DataSpan.{DataSpan}
 use Rattle.elements.specs.declared.LabelPosition.{LabelPosition}
 use Rattle.grammar.specs.Epl.{origin}
-use Rattle.index.specs.declared.entry.LabelEntry.{LabelEntry}
+use Rattle.label_index.specs.declared.entry.LabelEntry.{LabelEntry}
 use Rattle.structs.specs.declared.answer.Element.{Element}
 use Rattle.structs.specs.Fields.{saying}
 use Rattle.structs.specs.Fields.{rotation, reverse, colour, direction, line, check, truncate, level}

@@ -5,8 +5,8 @@ use Prim.Native.Nat.{ℕ}
 use lib.ListN.{take, getD}
 use Rattle.frame_bytes.specs.Frame.{frameOf}
 use Rattle.walk_theory.specs.Index as theory
-use Rattle.index.specs.declared.entry.LabelEntry.{LabelEntry}
-use Rattle.index.specs.Entries.{noEntry}
+use Rattle.label_index.specs.declared.entry.LabelEntry.{LabelEntry}
+use Rattle.label_index.specs.Entries.{noEntry}
 use Rattle.file_listing.specs.Listing.{FramedLabel}
 use Rattle.dots_label.specs.Conversion.{Drawn, drawnOf}
 use Rattle.dots_label.specs.Promise.{AllBegin}

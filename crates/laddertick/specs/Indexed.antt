@@ -7,8 +7,8 @@ use lib.IntN.{ℤ, pos}
 use Rattle.text.specs.Ascii.{ascii}
 use Rattle.elements.specs.Given.{text, denied}
 use Rattle.walk_theory.specs.Index.{filled, unfilled}
-use Rattle.index.specs.declared.entry.LabelEntry.{LabelEntry}
-use Rattle.index.specs.Entries.{EplEntry, entryOf}
+use Rattle.label_index.specs.declared.entry.LabelEntry.{LabelEntry}
+use Rattle.label_index.specs.Entries.{EplEntry, entryOf}
 use Rattle.laddertick.specs.Table.{Case, indexes, opens}
 
 -- How the rows are written: an entry by its first and last place, its count and its reference; a file with its entries,

@@ -7,7 +7,7 @@ use lib.IntN.{ℤ, pos, negsuc}
 use Rattle.text.specs.Ascii.{ascii}
 use Rattle.elements.specs.Given.{Due, text, denied}
 use Rattle.elements.specs.declared.LabelPosition.{LabelPosition}
-use Rattle.index.specs.declared.entry.LabelEntry.{LabelEntry}
+use Rattle.label_index.specs.declared.entry.LabelEntry.{LabelEntry}
 use Rattle.where_element.specs.declared.place.Rectangle.{Rectangle}
 use Rattle.where_label.specs.Found.{Spot, element, refused, insideDue, touchingDue, nearestDue}
 

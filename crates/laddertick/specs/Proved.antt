@@ -34,8 +34,8 @@ use Rattle.strict.proofs.check.check.Reads as check-reads
 use Rattle.strict.proofs.listing.strict_list.Statement as strict-list
 use Rattle.strict.proofs.listing.strict_list.Kinds as strict-list-kinds
 use Rattle.strict.proofs.listing.strict_list.Reads as strict-list-reads
-use Rattle.index.proofs.labels.index.Statement as index
-use Rattle.index.proofs.labels.index as index-fn
+use Rattle.label_index.proofs.labels.index.Statement as index
+use Rattle.label_index.proofs.labels.index as index-fn
 use Rattle.label_opening.proofs.label.open_label.Statement as open-label
 use Rattle.label_opening.proofs.label.open_label as open-label-fn
 use Rattle.joining.proofs.join.join.Statement as join

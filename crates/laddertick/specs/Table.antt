@@ -20,8 +20,8 @@ use Rattle.file_listing.specs.Listing.{dueOf}
 use Rattle.strict.specs.declared.verdict.Checked.{Checked}
 use Rattle.strict.specs.Verdict.{checkedOf}
 use Rattle.strict.specs.Listing.{strictDueOf}
-use Rattle.index.specs.declared.entry.LabelEntry.{LabelEntry}
-use Rattle.index.specs.Plan.{EplFilling, fillingOf}
+use Rattle.label_index.specs.declared.entry.LabelEntry.{LabelEntry}
+use Rattle.label_index.specs.Plan.{EplFilling, fillingOf}
 use Rattle.label_opening.specs.Opened as opening
 use Rattle.joining.specs.Join.{fileOf, joinDueOf}
 use Rattle.dots_label.specs.Conversion.{Conversion, conversionOf}

@@ -12,8 +12,8 @@ use Rattle.lists.proofs.Walks.{Known}
 use Rattle.elements.specs.Given.{Given, givenOf}
 use Rattle.where_label.specs.Found.{givenFound, spotOf}
 use Rattle.where_label.proofs.Data.{found}
-use Rattle.index.specs.Plan.{Counted, countedOf}
-use Rattle.index.proofs.Elems.{indexed}
+use Rattle.label_index.specs.Plan.{Counted, countedOf}
+use Rattle.label_index.proofs.Elems.{indexed}
 use Rattle.label_opening.proofs.Data.{filled}
 use Rattle.structs.specs.Written.{givenFlat, countedFlat, spotFlat}
 use Rattle.structs.proofs.written.Written as T

@@ -16,7 +16,7 @@ use Rattle.file_listing.specs.Listing as listing
 use Rattle.format.specs.Normalise as normal
 use Rattle.strict.specs.Verdict.{checkedOf}
 use Rattle.strict.specs.Listing.{strictDueOf}
-use Rattle.index.specs.Plan.{Indexes, fillingOf}
+use Rattle.label_index.specs.Plan.{Indexes, fillingOf}
 use Rattle.label_opening.specs.Opened as opening
 use Rattle.joining.specs.Join.{Joins}
 use Rattle.laddertick.specs.Proved.{Owes, Says}

@@ -9,7 +9,7 @@ ghost use Rattle.where_label.specs.Found.{insideDue, touchingDue, nearestDue};
 ghost use Rattle.structs.specs.Written.{givenFlat, countedFlat, spotFlat};
 ghost use Rattle.format.specs.Normalise as normalise;
 ghost use Rattle.file_listing.specs.Listing as listing;
-ghost use Rattle.index.specs.Plan.{Indexes, fillingOf};
+ghost use Rattle.label_index.specs.Plan.{Indexes, fillingOf};
 ghost use Rattle.joining.specs.Join.{Joins};
 ghost use Rattle.label_opening.specs.Opened as opening;
 ghost use Rattle.dots_label.specs.Conversion.{conversionOf, Converts};

@@ -8,8 +8,8 @@ use Rattle.elements.specs.declared.refusal.Refusal.{Refusal}
 use Rattle.elements.specs.declared.refusal.Refusal.the-variants.{TextFields, BarcodeFields, Barcode2dFields, LineFields, DiagonalFields, BoxFields, BarcodeType, Barcode2dType, QrData, GraphicFields, GraphicNegative, GraphicTruncated, OutOfRange, InputTooLong, OutputTooShort, StateOutside, NoValue, OutsideProfile, SizeOutside, TooManyLabels, NoSuchLabel, RectangleTurned, NotReadable, GraphicInLabel, JoinedTooLong}
 use Rattle.elements.specs.Refusals.{numberOf}
 use Rattle.elements.specs.Given.{bytes, refused}
-use Rattle.index.specs.Plan as index
-use Rattle.index.specs.Plan.{counted}
+use Rattle.label_index.specs.Plan as index
+use Rattle.label_index.specs.Plan.{counted}
 use Rattle.where_label.specs.Found as spots
 use Rattle.structs.specs.Written.{givenFlat, countedFlat, spotFlat}
 

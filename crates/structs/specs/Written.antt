@@ -2,8 +2,8 @@
 use mathlib.Core.Bool.{cond}
 use lib.Dec.{eqb}
 use Rattle.elements.specs.Given.{Given, bytes, refused}
-use Rattle.index.specs.Plan as index
-use Rattle.index.specs.Plan.{Counted, counted}
+use Rattle.label_index.specs.Plan as index
+use Rattle.label_index.specs.Plan.{Counted, counted}
 use Rattle.where_label.specs.Found as spots
 use Rattle.where_label.specs.Found.{Spot}
 use Rattle.structs.specs.declared.written.Written.{Written}

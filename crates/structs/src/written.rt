@@ -1,12 +1,12 @@
 // The answer of a call that fills a lent buffer or list, for hosts that know numbers and structs only.
 ghost use mathlib.Core.Path.{_≡_};
 ghost use Rattle.elements.specs.Given.{givenOf};
-ghost use Rattle.index.specs.Plan.{countedOf};
+ghost use Rattle.label_index.specs.Plan.{countedOf};
 ghost use Rattle.where_label.specs.Found.{givenFound, spotOf};
 ghost use Rattle.structs.specs.Written.{givenFlat, countedFlat, spotFlat};
 use elements::filled::Filled;
 use where_label::found::Found;
-use index::labels::Indexed;
+use label_index::labels::Indexed;
 
 // number 0: the text or the list is written, place is its length; or place is the number of an element. Else a refusal:
 // its number and its place.

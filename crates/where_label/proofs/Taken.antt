@@ -32,19 +32,19 @@ use denote.Triple.Clauses.{Clauses}
 use denote.Triple.Entry.{alive}
 use denote.Triple.Statement.{Triple}
 use Rattle.elements.specs.Given.{Due, Fills}
-use Rattle.index.specs.declared.entry.LabelEntry.{LabelEntry}
-use Rattle.index.specs.Entries.{noEntry}
-use Rattle.index.proofs.Elems.{entry}
+use Rattle.label_index.specs.declared.entry.LabelEntry.{LabelEntry}
+use Rattle.label_index.specs.Entries.{noEntry}
+use Rattle.label_index.proofs.Elems.{entry}
 use Rattle.lists.proofs.Elem.{row-of, vals, elem, bytes, lent, number, made-of, ref, ty}
 use Rattle.lists.proofs.Steps.{frees, Token, apart, apart3, together, together3, beside}
 use Rattle.lists.proofs.Walks.{Spec, walked, calls, calls-plain, calls-with, typed}
 use Rattle.where_element.specs.declared.place.Rectangle.{Rectangle}
 use Rattle.where_label.specs.Found.{givenFound}
 use Rattle.where_label.proofs.Data.{numbers-mut, rectangle, found}
-use Rattle.index.proofs.entry.no_entry as none-fn
-use Rattle.index.proofs.entry.no_entry.Symbol as none-fn-def
-use Rattle.index.proofs.entry.entry_or as get
-use Rattle.index.proofs.entry.entry_or.Symbol as get-def
+use Rattle.label_index.proofs.entry.no_entry as none-fn
+use Rattle.label_index.proofs.entry.no_entry.Symbol as none-fn-def
+use Rattle.label_index.proofs.entry.entry_or as get
+use Rattle.label_index.proofs.entry.entry_or.Symbol as get-def
 use Rattle.where_label.proofs.find.inside_entry as work
 use Rattle.where_label.proofs.find.inside as fn
 

@@ -11,7 +11,7 @@ use Rattle.elements.specs.declared.walk_state.WalkState.{WalkState}
 use Rattle.walk_theory.specs.Trace.{lead}
 use Rattle.grammar.specs.Epl.{epl}
 use Rattle.walk.specs.Steps.{EplTrace, traceOf}
-use Rattle.index.specs.declared.entry.LabelEntry.{LabelEntry}
+use Rattle.label_index.specs.declared.entry.LabelEntry.{LabelEntry}
 use Rattle.label_opening.specs.Opened.{startOf, firstFrom, startedOpening}
 use Rattle.where_element.specs.Element.{isIn, isOn, numbersFrom}
 use Rattle.where_element.specs.declared.place.Rectangle.{Rectangle}

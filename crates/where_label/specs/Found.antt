@@ -10,8 +10,8 @@ use Rattle.elements.specs.declared.LabelElement.{LabelElement}
 use Rattle.elements.specs.declared.LabelPosition.{LabelPosition}
 use Rattle.walk_theory.specs.Index.{Opening, opens, denies, opening}
 use Rattle.grammar.specs.Epl.{EplPrint, epl}
-use Rattle.index.specs.Entries.{entriesOf}
-use Rattle.index.specs.declared.entry.LabelEntry.{LabelEntry}
+use Rattle.label_index.specs.Entries.{entriesOf}
+use Rattle.label_index.specs.declared.entry.LabelEntry.{LabelEntry}
 use Rattle.where_element.specs.Place.{isTurned}
 use Rattle.where_element.specs.Element.{insideOf, touchingOf, nearestOf}
 use Rattle.where_element.specs.declared.place.Rectangle.{Rectangle}

@@ -7,7 +7,7 @@ use lib.ListN.{length}
 use Rattle.elements.specs.declared.LabelElement.{LabelElement}
 use Rattle.elements.specs.declared.LabelPosition.{LabelPosition}
 use Rattle.elements.specs.declared.walk_state.WalkState.{WalkState}
-use Rattle.index.specs.declared.entry.LabelEntry.{LabelEntry}
+use Rattle.label_index.specs.declared.entry.LabelEntry.{LabelEntry}
 use Rattle.label_opening.specs.Opened.{startOf, firstFrom, startedOpening}
 use Rattle.where_label.specs.Found.{Spot, itself, nearestIn}
 use Rattle.where_label.specs.declared.nearest.Best.{Best}

@@ -20,8 +20,8 @@ use denote.Slice.{ShrSlice, slice-vals}
 use denote.Steps.{owned, nothing}
 use denote.Triple.Table.{cited}
 use Rattle.elements.specs.declared.LabelPosition.{LabelPosition}
-use Rattle.index.specs.declared.entry.LabelEntry.{LabelEntry}
-use Rattle.index.proofs.Elems.{entry}
+use Rattle.label_index.specs.declared.entry.LabelEntry.{LabelEntry}
+use Rattle.label_index.proofs.Elems.{entry}
 use Rattle.lists.proofs.Elem.{row-of, elem, made-of, bytes, number, lent}
 use Rattle.lists.proofs.Steps.{frees, beside}
 use Rattle.lists.proofs.Walks.{walked, calls, calls-plain, typed}

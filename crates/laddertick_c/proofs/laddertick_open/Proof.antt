@@ -7,7 +7,7 @@ use denote.Ref.{now}
 use denote.Slice.{sliceTy}
 use denote.Triple.Table.{cited}
 use Rattle.lists.proofs.Elem.{bytes, bytes-mut, lent, number, ref}
-use Rattle.index.proofs.Elems.{entry}
+use Rattle.label_index.proofs.Elems.{entry}
 use Rattle.elements.specs.Given.{Fills}
 use Rattle.label_opening.specs.Opened.{dueOf}
 use Rattle.laddertick_c.proofs.Data.{filling}

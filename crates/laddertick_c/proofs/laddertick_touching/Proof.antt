@@ -7,7 +7,7 @@ use denote.Ref.{now}
 use denote.Slice.{sliceTy}
 use denote.Triple.Table.{cited}
 use Rattle.lists.proofs.Elem.{bytes, lent, number, elem, ref, ty}
-use Rattle.index.proofs.Elems.{entry}
+use Rattle.label_index.proofs.Elems.{entry}
 use Rattle.elements.specs.Given.{Fills}
 use Rattle.where_label.specs.Found.{touchingDue}
 use Rattle.where_label.proofs.Data.{numbers-mut, rectangle}

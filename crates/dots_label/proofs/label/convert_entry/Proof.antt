@@ -23,8 +23,8 @@ use denote.Slice.{ShrSlice, MutSlice, slice-vals, shr-slice-copy}
 use denote.Steps.{owned, nothing}
 use denote.Triple.Entry.{alive}
 use denote.Triple.Table.{cited}
-use Rattle.index.specs.declared.entry.LabelEntry.{LabelEntry}
-use Rattle.index.proofs.Elems.{entry}
+use Rattle.label_index.specs.declared.entry.LabelEntry.{LabelEntry}
+use Rattle.label_index.proofs.Elems.{entry}
 use Rattle.dots.specs.declared.element.Element300.{Element300}
 use Rattle.lists.specs.Filled.{made}
 use Rattle.dots_label.specs.Conversion.{Conversion, conversionBy}

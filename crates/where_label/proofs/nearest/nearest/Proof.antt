@@ -22,9 +22,9 @@ use denote.Triple.Entry.{alive}
 use denote.Triple.Table.{cited}
 use Rattle.elements.specs.declared.LabelElement.{LabelElement}
 use Rattle.elements.specs.declared.LabelPosition.{LabelPosition}
-use Rattle.index.specs.declared.entry.LabelEntry.{LabelEntry}
-use Rattle.index.specs.Entries.{noEntry}
-use Rattle.index.proofs.Elems.{entry}
+use Rattle.label_index.specs.declared.entry.LabelEntry.{LabelEntry}
+use Rattle.label_index.specs.Entries.{noEntry}
+use Rattle.label_index.proofs.Elems.{entry}
 use Rattle.lists.proofs.Elem.{row-of, vals, elem, bytes, lent, number, made-of}
 use Rattle.lists.proofs.Steps.{frees, Token, apart, together, beside}
 use Rattle.lists.proofs.Walks.{walked, calls-plain, calls-with, typed}
@@ -32,12 +32,12 @@ use Rattle.label_opening.proofs.FirstLaws.{started}
 use Rattle.where_label.specs.Found.{ElementOpening, itself, nearestIn, spotOf}
 use Rattle.where_label.specs.Nearest.{nearestEntry}
 use Rattle.where_label.proofs.Data.{point, found}
-use Rattle.index.proofs.entry.no_entry as none-fn
-use Rattle.index.proofs.entry.no_entry.Symbol as none-fn-def
-use Rattle.index.proofs.entry.no_entry.Met as none-fn-thm
-use Rattle.index.proofs.entry.entry_or as get
-use Rattle.index.proofs.entry.entry_or.Symbol as get-def
-use Rattle.index.proofs.entry.entry_or.Met as get-thm
+use Rattle.label_index.proofs.entry.no_entry as none-fn
+use Rattle.label_index.proofs.entry.no_entry.Symbol as none-fn-def
+use Rattle.label_index.proofs.entry.no_entry.Met as none-fn-thm
+use Rattle.label_index.proofs.entry.entry_or as get
+use Rattle.label_index.proofs.entry.entry_or.Symbol as get-def
+use Rattle.label_index.proofs.entry.entry_or.Met as get-thm
 use Rattle.where_label.proofs.nearest.nearest_entry as work
 use Rattle.where_label.proofs.nearest.nearest_entry.Symbol as work-def
 use Rattle.where_label.proofs.nearest.nearest_entry.Met as work-thm
@@ -64,10 +64,10 @@ nearest-spec 𝓤 H 𝓜 𝓖 𝓡 =
     alloc1 ! (λ l₀. alloc1 ! (λ l₁. alloc1 ! (λ l₂. alloc1 ! (λ l₃. alloc1 ! (λ l₄. alloc1 ! (λ l₅. alloc1 ! (λ l₆. alloc1 ! (λ l₇. alloc0 ! $ params1 ! $
     pass1 ! (init ! 12 refl (wt .0)) $ pass1 ! (init ! 10 refl (wt .1 .0)) $ pass1 ! (init ! 8 refl (wt .1 .1 .0)) $ pass1 ! (init ! 6 refl (wt .1 .1 .1 .0)) $ pass0 ! $
     -- [_7; …; _0; …; a token and the input; a token and the entries]
-    calls-plain ! fm none-fn.ended (none-fn.clauses 𝓤 H (𝓖 .A) (𝓜 .mem) (𝓡 .run)) (cited 𝓤 H _ 𝓜 𝓡 code.env none-fn-def.name none-fn-def.routine code.calls-index·entry·no-entry (none-fn-thm.met 𝓤 H 𝓜 𝓖 𝓡))
+    calls-plain ! fm none-fn.ended (none-fn.clauses 𝓤 H (𝓖 .A) (𝓜 .mem) (𝓡 .run)) (cited 𝓤 H _ 𝓜 𝓡 code.env none-fn-def.name none-fn-def.routine code.calls-label-index·entry·no-entry (none-fn-thm.met 𝓤 H 𝓜 𝓖 𝓡))
     ((tt, tt, tt, tt, tt), tt) (id⊢ 𝓤 _) (λ r. r ≡ noEntry) (λ r e. id⊢ 𝓤 _) (id⊢ 𝓤 _) (id⊢ 𝓤 _) (no-more !) (λ v₁ d none-is is₁.
     land ! (from ! (stop !)) (init ! 2 refl (typed 𝓤 H 𝓜 𝓖 (elem entry) d v₁ is₁ .0)) $ move ! (18 ∷ 19 ∷ []) $
-    calls-with ! fm get.ended (get.clauses 𝓤 H (𝓖 .A) (𝓜 .mem) (𝓡 .run)) (cited 𝓤 H _ 𝓜 𝓡 code.env get-def.name get-def.routine code.calls-index·entry·entry-or (get-thm.met 𝓤 H 𝓜 𝓖 𝓡))
+    calls-with ! fm get.ended (get.clauses 𝓤 H (𝓖 .A) (𝓜 .mem) (𝓡 .run)) (cited 𝓤 H _ 𝓜 𝓡 code.env get-def.name get-def.routine code.calls-label-index·entry·entry-or (get-thm.met 𝓤 H 𝓜 𝓖 𝓡))
     (((κs .1 .0, tt), (qs .1 .0, tt), tt, (x, (i, (d, tt))), (slice-vals x, (uint-vals w64 i, (v₁ ∷ [], tt)))), tt) (id⊢ 𝓤 _) (λ r. r ≡ getD (now x) i d) (λ r e. id⊢ 𝓤 _)
     Entries (shr-slice-copy 𝓤 H (𝓖 .A) W (named 1) (κs .1 .0) (row-of entry) .twice x (slice-vals x)) (beside 𝓤 H (𝓖 .A) Entries (usize ∷ row-of entry ∷ []) (mk, (made-of entry 𝓤 H (𝓖 .A), tt)) (i, (d, tt)) (uint-vals w64 i, (v₁ ∷ [], tt)) (are .1 .1 .0, (is₁, tt)))
     (and-then ! (load ! (from ! (stop !)) (look ! 12 refl)) (and-then ! (load ! (from ! (stop !)) (look ! 10 refl)) (and-then ! (load ! (from ! (stop !)) (look ! 4 refl)) (no-more !)))) (λ v₂ e got is₂.
