@@ -1,5 +1,5 @@
 -- An element at 300 dots as an element of a list that is lent; a cursor, a plan and an answer as plain data.
-use Rattle.lists.proofs.Elem.{Elem}
+use Rattle.lent_lists.proofs.Elem.{Elem}
 use Rattle.dots.proofs.element.Element300 as T
 use Rattle.dots.proofs.element.Element300.Laws as T′
 use Rattle.dots_label.proofs.fill.Cursor as C

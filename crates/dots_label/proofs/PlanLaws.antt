@@ -14,7 +14,7 @@ use borrow.Author.Tests.{eqb-true, eqb-false, lt-ltb, le-ltb, ltb-true, ltb-fals
 use Rattle.elements.specs.declared.LabelElement.{LabelElement}
 use Rattle.elements.specs.declared.walk_state.WalkState.{WalkState}
 use Rattle.elements.specs.Given.{longest}
-use Rattle.lists.specs.Filled.{made}
+use Rattle.lent_lists.specs.Filled.{made}
 use Rattle.walk_theory.specs.Index.{denies, openingBy, openingFound}
 use Rattle.grammar.specs.Epl.{EplPrint, epl}
 use Rattle.label_index.specs.Entries.{entryOf, entriesOf, noEntry}

@@ -11,7 +11,7 @@ use borrow.Author.Tests.{lt-ltb, le-ltb}
 use Rattle.elements.specs.declared.LabelElement.{LabelElement}
 use Rattle.elements.specs.declared.LabelPosition.{LabelPosition}
 use Rattle.elements.specs.declared.walk_state.WalkState.{WalkState}
-use Rattle.lists.specs.Filled.{made}
+use Rattle.lent_lists.specs.Filled.{made}
 use Rattle.walk_theory.specs.Language as language
 use Rattle.walk_theory.specs.Language.{First, bad, unit, Act, keep, clear, yield, print, outside}
 use Rattle.walk_theory.specs.Index.{firstIn}

@@ -10,7 +10,7 @@ use Rattle.elements.specs.declared.LabelElement.{LabelElement}
 use Rattle.elements.specs.declared.walk_state.WalkState.{WalkState}
 use Rattle.elements.specs.Given.{longest}
 use Rattle.elements.specs.Refusals.{numberOf}
-use Rattle.lists.specs.Filled.{made}
+use Rattle.lent_lists.specs.Filled.{made}
 use Rattle.walk_theory.specs.Index.{denies, firstIn, openingBy}
 use Rattle.walk_theory.specs.Step.{element, cleared, printed, ended, refused, step}
 use Rattle.walk_theory.specs.Trace.{Trace, trace, lead}

@@ -1,9 +1,9 @@
-// The elements of a label at 300 dots, one a step of the walk. `fill` is an instance of a law of the crate `lists`.
+// The elements of a label at 300 dots, one a step of the walk. `fill` is an instance of a law of the crate `lent_lists`.
 ghost use mathlib.Core.Path.{_≡_};
 ghost use mathlib.Core.List.{_++_};
 ghost use Prim.Native.Nat.{_≤_, _<_};
 ghost use lib.ListN.{length, drop};
-ghost use Rattle.lists.specs.Filled.{made};
+ghost use Rattle.lent_lists.specs.Filled.{made};
 ghost use Rattle.dots_label.specs.Walked.{nextOf, WithinCursor};
 use dots::element::Element300;
 use dots::element::element_300;

@@ -1,5 +1,5 @@
 -- An entry as an element of a list that is lent; a cursor, what is to be done and what an index answers as plain data.
-use Rattle.lists.proofs.Elem.{Elem, Datum, choice}
+use Rattle.lent_lists.proofs.Elem.{Elem, Datum, choice}
 use Rattle.label_index.proofs.entry.Cursor as C
 use Rattle.label_index.proofs.entry.Cursor.Laws as C′
 use Rattle.label_index.proofs.entry.LabelEntry as T

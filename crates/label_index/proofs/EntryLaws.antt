@@ -3,7 +3,7 @@ use mathlib.Core.Path.{_≡_, refl, ap, _∙_}
 use mathlib.Core.List.{List, _∷_}
 use Prim.Native.Nat.{ℕ, zero, suc}
 use lib.ListN.{length}
-use Rattle.lists.specs.Filled.{made}
+use Rattle.lent_lists.specs.Filled.{made}
 use Rattle.walk_theory.specs.Index.{entries}
 use Rattle.walk_theory.proofs.NextLaws.{turns, turns-all}
 use Rattle.walk_theory.proofs.UnrefusedLaws.{next-from}

@@ -9,7 +9,7 @@ use lib.Dec.{ltb}
 use lib.ListN.{length, drop}
 use lib.Seq.{sets, sets-eq}
 use borrow.Author.Tests.{lt-ltb, le-ltb, ltb-false}
-use Rattle.lists.specs.Filled.{made}
+use Rattle.lent_lists.specs.Filled.{made}
 use Rattle.text.proofs.BoolLaws.{test}
 use Rattle.elements.specs.Walk.{fresh}
 use Rattle.walk_theory.specs.Reach.{Final, accepted, refusal}

@@ -1,10 +1,10 @@
 // The entries of a file's labels, in print order. The borrow checker covers no function over a slice of structs: `fill`
-// and `entry_or` are instances of laws of the crate `lists`.
+// and `entry_or` are instances of laws of the crate `lent_lists`.
 ghost use mathlib.Core.Path.{_≡_};
 ghost use mathlib.Core.List.{_++_};
 ghost use Prim.Native.Nat.{_≤_, _<_};
 ghost use lib.ListN.{length, drop, getD};
-ghost use Rattle.lists.specs.Filled.{made};
+ghost use Rattle.lent_lists.specs.Filled.{made};
 ghost use Rattle.label_index.specs.Entries.{nextOf, WithinCursor, noEntry};
 use crate::glance::pass_told;
 use elements::LabelPosition;

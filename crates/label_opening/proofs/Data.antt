@@ -3,8 +3,8 @@ use mir.Syntax.{Lifetime}
 use base.Fml.{Lft}
 use denote.Builtin.{u8}
 use denote.Slice.{MutSlice, slice-vals, mut-slice-tells, mut-slice-lawful}
-use Rattle.lists.proofs.Elem.{Datum, choice}
-use Rattle.lists.proofs.Walks.{Known}
+use Rattle.lent_lists.proofs.Elem.{Datum, choice}
+use Rattle.lent_lists.proofs.Walks.{Known}
 use Rattle.elements.proofs.filled.Filled as F
 use Rattle.elements.proofs.filled.Filled.Laws as F′
 

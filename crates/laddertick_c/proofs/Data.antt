@@ -7,8 +7,8 @@ use denote.Laws.{Typed}
 use denote.Memory.{lone}
 use denote.Builtin.{i32}
 use denote.Signed.{sint-vals, sint-tells, sint-lawful}
-use Rattle.lists.proofs.Elem.{Elem, Datum}
-use Rattle.lists.proofs.Walks.{Known}
+use Rattle.lent_lists.proofs.Elem.{Elem, Datum}
+use Rattle.lent_lists.proofs.Walks.{Known}
 use Rattle.elements.specs.Given.{Given, givenOf}
 use Rattle.where_label.specs.Found.{givenFound, spotOf}
 use Rattle.where_label.proofs.Data.{found}

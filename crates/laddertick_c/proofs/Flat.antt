@@ -30,10 +30,10 @@ use denote.Steps.{owned}
 use denote.Triple.Clauses.{Ended, Clauses}
 use denote.Triple.End.{Kepts, Outs}
 use denote.Triple.Statement.{Triple}
-use Rattle.lists.proofs.Elem.{row-of, elem, made-of, ty}
-use Rattle.lists.proofs.Steps.{frees}
-use Rattle.lists.proofs.Value.{value-ended}
-use Rattle.lists.proofs.Walks.{Knowns, spells, Spec, walked, calls, calls-plain, typed}
+use Rattle.lent_lists.proofs.Elem.{row-of, elem, made-of, ty}
+use Rattle.lent_lists.proofs.Steps.{frees}
+use Rattle.lent_lists.proofs.Value.{value-ended}
+use Rattle.lent_lists.proofs.Walks.{Knowns, spells, Spec, walked, calls, calls-plain, typed}
 use Rattle.laddertick_c.proofs.Data.{Answer, written}
 use Rattle.laddertick_c.proofs.Locals.{Values, Blocks, row, firsts, locals, copies, past, parted, env, spot-past, after-result, held, allocs-all, passes-all, frees-all, beneath, at-spot, opds-as, opds-all}
 

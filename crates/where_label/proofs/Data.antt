@@ -3,8 +3,8 @@ use mir.Syntax.{Lifetime}
 use base.Fml.{Lft}
 use denote.Builtin.{usize}
 use denote.Slice.{MutSlice, slice-vals, mut-slice-tells, mut-slice-lawful}
-use Rattle.lists.proofs.Elem.{Elem, Datum, choice}
-use Rattle.lists.proofs.Walks.{Known}
+use Rattle.lent_lists.proofs.Elem.{Elem, Datum, choice}
+use Rattle.lent_lists.proofs.Walks.{Known}
 use Rattle.elements.proofs.LabelPosition as P
 use Rattle.elements.proofs.LabelPosition.Laws as P′
 use Rattle.where_element.proofs.place.Rectangle as R

@@ -35,9 +35,9 @@ use Rattle.elements.specs.Given.{Due, Fills}
 use Rattle.label_index.specs.declared.entry.LabelEntry.{LabelEntry}
 use Rattle.label_index.specs.Entries.{noEntry}
 use Rattle.label_index.proofs.Elems.{entry}
-use Rattle.lists.proofs.Elem.{row-of, vals, elem, bytes, lent, number, made-of, ref, ty}
-use Rattle.lists.proofs.Steps.{frees, Token, apart, apart3, together, together3, beside}
-use Rattle.lists.proofs.Walks.{Spec, walked, calls, calls-plain, calls-with, typed}
+use Rattle.lent_lists.proofs.Elem.{row-of, vals, elem, bytes, lent, number, made-of, ref, ty}
+use Rattle.lent_lists.proofs.Steps.{frees, Token, apart, apart3, together, together3, beside}
+use Rattle.lent_lists.proofs.Walks.{Spec, walked, calls, calls-plain, calls-with, typed}
 use Rattle.where_element.specs.declared.place.Rectangle.{Rectangle}
 use Rattle.where_label.specs.Found.{givenFound}
 use Rattle.where_label.proofs.Data.{numbers-mut, rectangle, found}

@@ -15,7 +15,7 @@ use Rattle.dots.specs.declared.element.Element300.{Element300}
 use Rattle.decimals.specs.Decimal.{DecimalLen, decimal}
 use Rattle.decimals.specs.Joined.{closed}
 use Rattle.decimals.proofs.SignLaws.{len-below, len-above}
-use Rattle.lists.specs.Passed.{Passes}
+use Rattle.lent_lists.specs.Passed.{Passes}
 use Rattle.writing_label.specs.declared.tally.Tally.{Tally}
 use Rattle.writing_label.specs.Tally.{TurnOf, TurnOf300}
 use Rattle.writing_label.specs.Plan.{measured, printText, planOf, beginOf, finishOf}

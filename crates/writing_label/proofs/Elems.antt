@@ -1,5 +1,5 @@
 -- An element, at either resolution, as an element of a list that is lent; a tally as plain data.
-use Rattle.lists.proofs.Elem.{Elem}
+use Rattle.lent_lists.proofs.Elem.{Elem}
 use Rattle.structs.proofs.answer.Element as P
 use Rattle.structs.proofs.answer.Element.Laws as P′
 use Rattle.dots.proofs.element.Element300 as D

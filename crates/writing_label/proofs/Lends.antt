@@ -1,7 +1,7 @@
--- Steps of a walk that lends its `&mut [u8]` again for a call, beside those of `lists`' Lent.
+-- Steps of a walk that lends its `&mut [u8]` again for a call, beside those of `lent_lists`' Lent.
 --     lends, back      the list is lent for a lifetime that is made for the call; it comes back at what the callee left
 --     calls-out        a call of a function whose first parameter is the list, and the others plain data
---     calls-pass       a call of `lists`' Pass: the two `&` can be had twice, and stay
+--     calls-pass       a call of `lent_lists`' Pass: the two `&` can be had twice, and stay
 -- Assumes `Given`.
 use mathlib.Core.Path.{_≡_, refl, sym, _∙_, subst}
 use Prim.Native.Nat.{ℕ}
@@ -33,13 +33,13 @@ use denote.Triple.Clauses.{Ended, Clauses, AtExit}
 use denote.Triple.End.{Kepts}
 use denote.Triple.Entry.{alive}
 use denote.Triple.Statement.{Triple}
-use Rattle.lists.specs.Passed.{Passes}
-use Rattle.lists.proofs.Again.{LentAgain, lends-again, comes-back}
-use Rattle.lists.proofs.Elem.{Elem, row-of, made-of}
-use Rattle.lists.proofs.Lent.{named-list}
-use Rattle.lists.proofs.Pass as passing
-use Rattle.lists.proofs.Steps.{Token, apart3, together3, beside}
-use Rattle.lists.proofs.Walks.{Spec, calls}
+use Rattle.lent_lists.specs.Passed.{Passes}
+use Rattle.lent_lists.proofs.Again.{LentAgain, lends-again, comes-back}
+use Rattle.lent_lists.proofs.Elem.{Elem, row-of, made-of}
+use Rattle.lent_lists.proofs.Lent.{named-list}
+use Rattle.lent_lists.proofs.Pass as passing
+use Rattle.lent_lists.proofs.Steps.{Token, apart3, together3, beside}
+use Rattle.lent_lists.proofs.Walks.{Spec, calls}
 
 -- ---- a list that is had
 -- the list zs at p, o, which has n elements as the machine has it, had at κ
@@ -95,7 +95,7 @@ module _ (S : RattleType) (ps : List (Slot 1)) (ks : Kepts ps) where
           drop t $ use1 W (‵ (flft (ν ∷ []) fullShare) ⊛ ‵ ftrue) (id⊢ 𝓤 _) $ split t $ move t (2 ∷ []) $ fsplit t $ fsplit t $ move t (1 ∷ []) $ feqL t (λ l.
           move t (2 ∷ 4 ∷ 0 ∷ []) $ back u8 𝓤 H A ℓ κ s γ p o n ys t tt ν δ (ws .0) long room l $ move t (2 ∷ 3 ∷ []) $ drop t $ drop t $ k u r (ws .0) told (l ∙ long) is)))
 
--- ---- a call of `lists`' Pass, at the bytes i, the elements x, the list ys and the cursor c
+-- ---- a call of `lent_lists`' Pass, at the bytes i, the elements x, the list ys and the cursor c
 module _ (E C : Elem) (Turn : List ℕ → E .type .D → C .type .D × List ℕ → C .type .D × List ℕ → Type 0) where
   module _ {M : Type 1} (𝓤 : URA M) (H : Heap 𝓤) (A : Atoms 𝓤) (κ₀ κ₁ : Lft) (s₀ s₁ : Share) (i : RefT (List ℕ)) (x : RefT (List (E .type .D))) (p o n : ℕ) (ys : List ℕ) (c : C .type .D) (v : Val) where
     abbrev lives : ℕ → Lfts 3

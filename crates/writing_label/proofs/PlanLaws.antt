@@ -21,7 +21,7 @@ use Rattle.elements.specs.declared.PrintCounts.{PrintCounts}
 use Rattle.elements.specs.Given.{Due, text, denied, longest, Given, bytes, refused, givenOf, Fills}
 use Rattle.elements.specs.Refusals.{numberOf}
 use Rattle.structs.specs.declared.answer.Element.{Element}
-use Rattle.lists.specs.Passed.{Passes}
+use Rattle.lent_lists.specs.Passed.{Passes}
 use Rattle.spellings.specs.Due.{noLabel}
 use Rattle.spellings.specs.Spelled.{ended, commandFor, spell, spellAll, spellLabel}
 use Rattle.spellings.specs.Writable.{writable}

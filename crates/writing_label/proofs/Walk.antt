@@ -7,7 +7,7 @@
 --         finish(out, p, e, sets, copies)
 --     }
 -- at any struct T and at any functions that ask nothing: `measuring`, `plan`, `begin` and `finish` meet equations, and
--- `pass` is `lists`' Pass. Then it meets any contract that follows of two passes (`law`). The buffer is lent again for each
+-- `pass` is `lent_lists`' Pass. Then it meets any contract that follows of two passes (`law`). The buffer is lent again for each
 -- call.
 --     Due          what is to be shown: that what is said follows of two passes
 -- Assumes nothing.
@@ -47,11 +47,11 @@ use denote.Enum.Laws as EL
 use denote.Triple.Entry.{alive}
 use denote.Triple.Clauses.{Ended, Clauses}
 use denote.Triple.Statement.{Triple}
-use Rattle.lists.specs.Passed.{Passes}
-use Rattle.lists.proofs.Elem.{Elem, Datum, choice, row-of, elem, lent, bytes, bytes-mut, made-of, ref, ty, word, last-list}
-use Rattle.lists.proofs.Pass as passing
-use Rattle.lists.proofs.Steps.{frees, Token, apart3, together3}
-use Rattle.lists.proofs.Walks.{Known, Spec, walked, calls-plain, typed}
+use Rattle.lent_lists.specs.Passed.{Passes}
+use Rattle.lent_lists.proofs.Elem.{Elem, Datum, choice, row-of, elem, lent, bytes, bytes-mut, made-of, ref, ty, word, last-list}
+use Rattle.lent_lists.proofs.Pass as passing
+use Rattle.lent_lists.proofs.Steps.{frees, Token, apart3, together3}
+use Rattle.lent_lists.proofs.Walks.{Known, Spec, walked, calls-plain, typed}
 use Rattle.writing_label.proofs.Lends.{takes-out, calls-out, calls-pass}
 
 abbrev signed : Known i32

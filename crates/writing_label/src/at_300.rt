@@ -1,7 +1,7 @@
 // The same of a label at 300 dots an inch.
 ghost use mathlib.Core.Path.{_≡_};
 ghost use Rattle.elements.specs.Given.{Fills, givenOf};
-ghost use Rattle.lists.specs.Passed.{Passes};
+ghost use Rattle.lent_lists.specs.Passed.{Passes};
 ghost use Rattle.writing_label.specs.Label.{at300, plainLabelDue300};
 ghost use Rattle.writing_label.specs.Tally.{TurnOf300};
 use crate::label::begin;

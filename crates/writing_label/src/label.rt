@@ -1,11 +1,11 @@
 // A label as EPL: `N`, its elements, its print line. Its elements are measured first, so that a refused call stores
-// nothing. The borrow checker covers no function over a slice of structs: `pass` is an instance of a law of `lists`, and
+// nothing. The borrow checker covers no function over a slice of structs: `pass` is an instance of a law of `lent_lists`, and
 // `write_label` is walked by hand.
 ghost use mathlib.Core.Path.{_≡_};
 ghost use Prim.Native.Nat.{_+_, _≤_};
 ghost use lib.ListN.{length};
 ghost use Rattle.elements.specs.Given.{Fills, givenOf};
-ghost use Rattle.lists.specs.Passed.{Passes};
+ghost use Rattle.lent_lists.specs.Passed.{Passes};
 ghost use Rattle.spellings.specs.Due.{noLabel};
 ghost use Rattle.text.specs.Wrote.{Put};
 ghost use Rattle.writing_label.specs.Label.{plainLabelDue};

@@ -6,7 +6,7 @@ use mir.Syntax.{named, imm, w8, tyInt, tyRef}
 use denote.Ref.{now}
 use denote.Slice.{sliceTy}
 use denote.Triple.Table.{cited}
-use Rattle.lists.proofs.Elem.{row-of, bytes, lent-mut}
+use Rattle.lent_lists.proofs.Elem.{row-of, bytes, lent-mut}
 use Rattle.label_index.specs.Plan.{Indexes, fillingOf}
 use Rattle.label_index.proofs.Elems.{entry}
 use Rattle.laddertick_c.proofs.Data.{indexing}

@@ -22,9 +22,9 @@ use denote.Triple.Table.{cited}
 use Rattle.elements.specs.declared.LabelPosition.{LabelPosition}
 use Rattle.label_index.specs.declared.entry.LabelEntry.{LabelEntry}
 use Rattle.label_index.proofs.Elems.{entry}
-use Rattle.lists.proofs.Elem.{row-of, elem, made-of, bytes, number, lent}
-use Rattle.lists.proofs.Steps.{frees, beside}
-use Rattle.lists.proofs.Walks.{walked, calls, calls-plain, typed}
+use Rattle.lent_lists.proofs.Elem.{row-of, elem, made-of, bytes, number, lent}
+use Rattle.lent_lists.proofs.Steps.{frees, beside}
+use Rattle.lent_lists.proofs.Walks.{walked, calls, calls-plain, typed}
 use Rattle.where_label.specs.Found.{givenFound, spotOf, nearestDue}
 use Rattle.where_label.proofs.Data.{point, found}
 use Rattle.structs.specs.Written.{givenFlat, spotFlat}

@@ -18,9 +18,9 @@ use denote.Steps.{owned, nothing}
 use denote.Triple.Table.{cited}
 use Rattle.label_index.specs.declared.entry.LabelEntry.{LabelEntry}
 use Rattle.dots.specs.declared.element.Element300.{Element300}
-use Rattle.lists.proofs.Elem.{row-of, elem, made-of, bytes, number, lent, lent-mut}
-use Rattle.lists.proofs.Steps.{frees}
-use Rattle.lists.proofs.Walks.{walked, calls, typed}
+use Rattle.lent_lists.proofs.Elem.{row-of, elem, made-of, bytes, number, lent, lent-mut}
+use Rattle.lent_lists.proofs.Steps.{frees}
+use Rattle.lent_lists.proofs.Walks.{walked, calls, typed}
 use Rattle.label_index.proofs.Elems.{entry}
 use Rattle.dots_label.proofs.Elems.{element, answer}
 use Rattle.dots_label.specs.Conversion.{conversionOf, Converts}

@@ -6,7 +6,7 @@ use denote.Builtin.{usize}
 use denote.Ref.{now}
 use denote.Slice.{sliceTy}
 use denote.Triple.Table.{cited}
-use Rattle.lists.proofs.Elem.{bytes, lent, number, elem, ref, ty}
+use Rattle.lent_lists.proofs.Elem.{bytes, lent, number, elem, ref, ty}
 use Rattle.label_index.proofs.Elems.{entry}
 use Rattle.elements.specs.Given.{Fills}
 use Rattle.where_label.specs.Found.{touchingDue}

@@ -6,7 +6,7 @@ use denote.Builtin.{u8}
 use denote.Ref.{now}
 use denote.Slice.{sliceTy}
 use denote.Triple.Table.{cited}
-use Rattle.lists.proofs.Elem.{bytes, bytes-mut, lent, ref}
+use Rattle.lent_lists.proofs.Elem.{bytes, bytes-mut, lent, ref}
 use Rattle.elements.specs.Given.{Fills}
 use Rattle.writing_label.specs.Label.{plainLabelDue}
 use Rattle.writing_label.proofs.Elems.{element}

@@ -1,4 +1,4 @@
--- `dots_label::fill::fill` meets its contract: it is `lists`' Fill, at an element and a cursor. Assumes nothing.
+-- `dots_label::fill::fill` meets its contract: it is `lent_lists`' Fill, at an element and a cursor. Assumes nothing.
 use mathlib.Core.List.{List}
 use Prim.Native.Nat.{ℕ}
 use denote.Triple.Table.{cited}
@@ -7,7 +7,7 @@ use Rattle.grammar.specs.Epl.{epl}
 use Rattle.walk.specs.Steps.{EplAnswer, stateOf}
 use Rattle.dots_label.specs.Walked.{onElement, WithinCursor, nextOf}
 use Rattle.dots_label.specs.declared.fill.Cursor.{Cursor}
-use Rattle.lists.proofs.Fill as fill
+use Rattle.lent_lists.proofs.Fill as fill
 use Rattle.dots_label.proofs.Elems as elems
 use Rattle.dots_label.proofs.fill.next.Symbol as next-def
 use Rattle.dots_label.proofs.fill.next.Met as next-thm

@@ -26,16 +26,16 @@ use denote.Triple.Table.{cited}
 use Rattle.label_index.specs.declared.entry.LabelEntry.{LabelEntry}
 use Rattle.label_index.proofs.Elems.{entry}
 use Rattle.dots.specs.declared.element.Element300.{Element300}
-use Rattle.lists.specs.Filled.{made}
+use Rattle.lent_lists.specs.Filled.{made}
 use Rattle.dots_label.specs.Conversion.{Conversion, conversionBy}
 use Rattle.dots_label.specs.Walked.{entryDrawn, nextOf, WithinCursor, Plans}
 use Rattle.dots_label.specs.declared.fill.Cursor.{Cursor}
 use Rattle.dots_label.proofs.PlanLaws.{plan-within, plan-list}
 use Rattle.dots_label.proofs.Elems as elems
-use Rattle.lists.proofs.Elem.{row-of, vals, elem, bytes, lent-mut, number, none, made-of, struct, still-last}
-use Rattle.lists.proofs.Steps.{frees, Token, apart, together, beside}
-use Rattle.lists.proofs.Value.{calls-value}
-use Rattle.lists.proofs.Walks.{walked, calls, calls-with, typed}
+use Rattle.lent_lists.proofs.Elem.{row-of, vals, elem, bytes, lent-mut, number, none, made-of, struct, still-last}
+use Rattle.lent_lists.proofs.Steps.{frees, Token, apart, together, beside}
+use Rattle.lent_lists.proofs.Value.{calls-value}
+use Rattle.lent_lists.proofs.Walks.{walked, calls, calls-with, typed}
 use Rattle.dots_label.proofs.plan.plan_entry as plan
 use Rattle.dots_label.proofs.plan.plan_entry.Symbol as plan-def
 use Rattle.dots_label.proofs.plan.plan_entry.Met as plan-thm

@@ -23,9 +23,9 @@ use denote.Triple.Table.{cited}
 use Rattle.label_index.specs.declared.entry.LabelEntry.{LabelEntry}
 use Rattle.label_index.specs.Entries.{noEntry}
 use Rattle.label_index.proofs.Elems.{entry}
-use Rattle.lists.proofs.Elem.{row-of, elem, bytes, lent, lent-mut, number, made-of}
-use Rattle.lists.proofs.Steps.{frees, Token, apart, apart3, together, together3, beside}
-use Rattle.lists.proofs.Walks.{walked, calls, calls-plain, calls-with, typed}
+use Rattle.lent_lists.proofs.Elem.{row-of, elem, bytes, lent, lent-mut, number, made-of}
+use Rattle.lent_lists.proofs.Steps.{frees, Token, apart, apart3, together, together3, beside}
+use Rattle.lent_lists.proofs.Walks.{walked, calls, calls-plain, calls-with, typed}
 use Rattle.dots.specs.declared.element.Element300.{Element300}
 use Rattle.dots_label.specs.Conversion.{Conversion, conversionBy, Converts}
 use Rattle.dots_label.specs.Walked.{entryDrawn}

@@ -1,5 +1,5 @@
--- `label_index::entry::entry_or` meets its contract: it is `lists`' Get, at an entry. Assumes nothing.
-use Rattle.lists.proofs.Get as get
+-- `label_index::entry::entry_or` meets its contract: it is `lent_lists`' Get, at an entry. Assumes nothing.
+use Rattle.lent_lists.proofs.Get as get
 use Rattle.label_index.proofs.Elems.{entry}
 use Rattle.label_index.proofs.entry.entry_or.Key.{name}
 use Rattle.label_index.proofs.entry.entry_or.Statement.{statement}

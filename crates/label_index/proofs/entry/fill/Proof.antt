@@ -1,7 +1,7 @@
--- `label_index::entry::fill` meets its contract: it is `lists`' Fill, at an entry and a cursor. Assumes nothing.
+-- `label_index::entry::fill` meets its contract: it is `lent_lists`' Fill, at an entry and a cursor. Assumes nothing.
 use denote.Triple.Table.{cited}
 use Rattle.label_index.specs.Entries.{WithinCursor, nextOf}
-use Rattle.lists.proofs.Fill as fill
+use Rattle.lent_lists.proofs.Fill as fill
 use Rattle.label_index.proofs.EntryLaws.{stays-within}
 use Rattle.label_index.proofs.Elems.{entry, cursor}
 use Rattle.label_index.proofs.entry.next.Symbol as next-def

@@ -22,15 +22,15 @@ use denote.Triple.Entry.{alive}
 use denote.Triple.Table.{cited}
 use Rattle.label_index.specs.declared.entry.LabelEntry.{LabelEntry}
 use Rattle.label_index.specs.declared.entry.Cursor.{Cursor}
-use Rattle.lists.specs.Filled.{made}
+use Rattle.lent_lists.specs.Filled.{made}
 use Rattle.label_index.specs.Entries.{begins, nextOf, WithinCursor}
 use Rattle.label_index.specs.Plan.{countedOf, fillingOf, Plans}
 use Rattle.label_index.proofs.PlanLaws.{plan-room, plan-start, filled-list}
 use Rattle.label_index.proofs.Elems.{entry, cursor, indexed, todo}
-use Rattle.lists.proofs.Elem.{row-of, elem, bytes, lent-mut, number, none, made-of, struct}
-use Rattle.lists.proofs.Steps.{frees, Token, apart, together, beside}
-use Rattle.lists.proofs.Value.{calls-value}
-use Rattle.lists.proofs.Walks.{walked, calls, calls-plain, calls-with, typed}
+use Rattle.lent_lists.proofs.Elem.{row-of, elem, bytes, lent-mut, number, none, made-of, struct}
+use Rattle.lent_lists.proofs.Steps.{frees, Token, apart, together, beside}
+use Rattle.lent_lists.proofs.Value.{calls-value}
+use Rattle.lent_lists.proofs.Walks.{walked, calls, calls-plain, calls-with, typed}
 use Rattle.label_index.proofs.labels.plan as plan
 use Rattle.label_index.proofs.labels.plan.Symbol as plan-def
 use Rattle.label_index.proofs.labels.plan.Met as plan-thm

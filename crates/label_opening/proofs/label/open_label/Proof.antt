@@ -25,9 +25,9 @@ use Rattle.elements.specs.Given.{Due, Fills}
 use Rattle.label_index.specs.declared.entry.LabelEntry.{LabelEntry}
 use Rattle.label_index.specs.Entries.{noEntry}
 use Rattle.label_index.proofs.Elems.{entry}
-use Rattle.lists.proofs.Elem.{row-of, elem, bytes, lent, number, made-of}
-use Rattle.lists.proofs.Steps.{frees, Token, apart, apart3, together, together3, beside}
-use Rattle.lists.proofs.Walks.{walked, calls, calls-plain, calls-with, typed}
+use Rattle.lent_lists.proofs.Elem.{row-of, elem, bytes, lent, number, made-of}
+use Rattle.lent_lists.proofs.Steps.{frees, Token, apart, apart3, together, together3, beside}
+use Rattle.lent_lists.proofs.Walks.{walked, calls, calls-plain, calls-with, typed}
 use Rattle.label_opening.specs.Opened.{entryDue}
 use Rattle.label_opening.proofs.FirstLaws.{due-found}
 use Rattle.label_opening.proofs.Data.{bytes-mut, filled}

@@ -25,9 +25,9 @@ use Rattle.elements.specs.declared.LabelPosition.{LabelPosition}
 use Rattle.label_index.specs.declared.entry.LabelEntry.{LabelEntry}
 use Rattle.label_index.specs.Entries.{noEntry}
 use Rattle.label_index.proofs.Elems.{entry}
-use Rattle.lists.proofs.Elem.{row-of, vals, elem, bytes, lent, number, made-of}
-use Rattle.lists.proofs.Steps.{frees, Token, apart, together, beside}
-use Rattle.lists.proofs.Walks.{walked, calls-plain, calls-with, typed}
+use Rattle.lent_lists.proofs.Elem.{row-of, vals, elem, bytes, lent, number, made-of}
+use Rattle.lent_lists.proofs.Steps.{frees, Token, apart, together, beside}
+use Rattle.lent_lists.proofs.Walks.{walked, calls-plain, calls-with, typed}
 use Rattle.label_opening.proofs.FirstLaws.{started}
 use Rattle.where_label.specs.Found.{ElementOpening, itself, nearestIn, spotOf}
 use Rattle.where_label.specs.Nearest.{nearestEntry}

@@ -1,7 +1,7 @@
--- `writing_label::at_300::pass_300` meets its contract: it is `lists`' Pass, at an element and a tally. Assumes nothing.
+-- `writing_label::at_300::pass_300` meets its contract: it is `lent_lists`' Pass, at an element and a tally. Assumes nothing.
 use denote.Triple.Table.{cited}
 use Rattle.writing_label.specs.Tally.{TurnOf300}
-use Rattle.lists.proofs.Pass as passing
+use Rattle.lent_lists.proofs.Pass as passing
 use Rattle.writing_label.proofs.Elems as elems
 use Rattle.writing_label.proofs.at_300.turn_300.Symbol as turn-def
 use Rattle.writing_label.proofs.at_300.turn_300.Met as turn-thm

@@ -1,7 +1,7 @@
--- `writing_label::label::pass` meets its contract: it is `lists`' Pass, at an element and a tally. Assumes nothing.
+-- `writing_label::label::pass` meets its contract: it is `lent_lists`' Pass, at an element and a tally. Assumes nothing.
 use denote.Triple.Table.{cited}
 use Rattle.writing_label.specs.Tally.{TurnOf}
-use Rattle.lists.proofs.Pass as passing
+use Rattle.lent_lists.proofs.Pass as passing
 use Rattle.writing_label.proofs.Elems as elems
 use Rattle.writing_label.proofs.turn.turn.Symbol as turn-def
 use Rattle.writing_label.proofs.turn.turn.Met as turn-thm

@@ -18,8 +18,8 @@ use denote.Laws.{Is, owns-make}
 use denote.Signature.{plain}
 use denote.Triple.Clauses.{Ended, Clauses}
 use denote.Triple.Statement.{Triple}
-use Rattle.lists.proofs.Elem.{Datum}
-use Rattle.lists.proofs.Walks.{Spec, calls-plain}
+use Rattle.lent_lists.proofs.Elem.{Datum}
+use Rattle.lent_lists.proofs.Walks.{Spec, calls-plain}
 
 module _ (S : Datum) (T : RattleType) where
   abbrev pub value-ended : Ended

@@ -52,13 +52,13 @@ use denote.Struct.Laws as LL
 use denote.Triple.Entry.{alive}
 use denote.Triple.Clauses.{Ended, Clauses}
 use denote.Triple.Statement.{Triple}
-use Rattle.lists.specs.Passed.{Passes}
-use Rattle.lists.proofs.Elem.{Elem, row-of, val, vals, elem, lent, bytes, bytes-mut, made-of, ref, ty, word, still-last, last-list}
-use Rattle.lists.proofs.Lent.{named-list, takes-list, calls-lent}
-use Rattle.lists.proofs.Place.{at-fits, size-fits}
-use Rattle.lists.proofs.Steps.{whiles, frees, frees-room, Token, apart3, together3}
-use Rattle.lists.proofs.Turns.{left-over, one-less, before}
-use Rattle.lists.proofs.Walks.{Spec, walked, typed}
+use Rattle.lent_lists.specs.Passed.{Passes}
+use Rattle.lent_lists.proofs.Elem.{Elem, row-of, val, vals, elem, lent, bytes, bytes-mut, made-of, ref, ty, word, still-last, last-list}
+use Rattle.lent_lists.proofs.Lent.{named-list, takes-list, calls-lent}
+use Rattle.lent_lists.proofs.Place.{at-fits, size-fits}
+use Rattle.lent_lists.proofs.Steps.{whiles, frees, frees-room, Token, apart3, together3}
+use Rattle.lent_lists.proofs.Turns.{left-over, one-less, before}
+use Rattle.lent_lists.proofs.Walks.{Spec, walked, typed}
 
 -- ---- lists
 -- some element of a list that has one at i

@@ -34,7 +34,7 @@ use denote.Struct.Laws as LL
 use denote.Enum.Declared as choices
 use denote.Enum.Enum.{Few, Plainss}
 use denote.Enum.Laws as EL
-use Rattle.lists.proofs.Walks.{Known}
+use Rattle.lent_lists.proofs.Walks.{Known}
 
 -- ---- types
 pub record Elem : Type 2 where

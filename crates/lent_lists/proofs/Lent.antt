@@ -31,9 +31,9 @@ use denote.Triple.Clauses.{Ended, Clauses, AtExit}
 use denote.Triple.End.{Kepts}
 use denote.Triple.Entry.{alive}
 use denote.Triple.Statement.{Triple}
-use Rattle.lists.proofs.Again.{LentAgain, lends-again, comes-back}
-use Rattle.lists.proofs.Steps.{Token, apart, together}
-use Rattle.lists.proofs.Walks.{Spec, calls}
+use Rattle.lent_lists.proofs.Again.{LentAgain, lends-again, comes-back}
+use Rattle.lent_lists.proofs.Steps.{Token, apart, together}
+use Rattle.lent_lists.proofs.Walks.{Spec, calls}
 
 -- a list under a name
 abbrev pub named-list : {X : Type 0} → ℕ → ℕ → GName → List X → RefT (List X)

@@ -35,10 +35,10 @@ use denote.Struct.Laws as LL
 use denote.Triple.Entry.{alive}
 use denote.Triple.Clauses.{Ended, Clauses, Lasts, lasts}
 use denote.Triple.Statement.{Triple}
-use Rattle.lists.proofs.Elem.{Elem, row-of, val, vals, elem, lent, number, ref, ty, word, still-last}
-use Rattle.lists.proofs.Place.{at-fits, size-fits}
-use Rattle.lists.proofs.Steps.{ifs, frees, frees-room}
-use Rattle.lists.proofs.Walks.{Spec, walked, typed}
+use Rattle.lent_lists.proofs.Elem.{Elem, row-of, val, vals, elem, lent, number, ref, ty, word, still-last}
+use Rattle.lent_lists.proofs.Place.{at-fits, size-fits}
+use Rattle.lent_lists.proofs.Steps.{ifs, frees, frees-room}
+use Rattle.lent_lists.proofs.Walks.{Spec, walked, typed}
 
 module _ (E : Elem) where
   abbrev R : RattleType

@@ -53,12 +53,12 @@ use denote.Struct.Laws as LL
 use denote.Triple.Entry.{Args, alive}
 use denote.Triple.Clauses.{Ended, Clauses, AtExit}
 use denote.Triple.Statement.{Triple}
-use Rattle.lists.specs.Filled.{made}
-use Rattle.lists.proofs.Elem.{Elem, row-of, val, vals, elem, lent-mut, bytes, number, ref, ty, word, still-last, last-list}
-use Rattle.lists.proofs.Place.{at-fits, size-fits}
-use Rattle.lists.proofs.Steps.{whiles, frees, frees-room}
-use Rattle.lists.proofs.Turns.{left-over, no-more-of, is-some, one-less, before}
-use Rattle.lists.proofs.Walks.{Lives, Spec, walked, calls, typed}
+use Rattle.lent_lists.specs.Filled.{made}
+use Rattle.lent_lists.proofs.Elem.{Elem, row-of, val, vals, elem, lent-mut, bytes, number, ref, ty, word, still-last, last-list}
+use Rattle.lent_lists.proofs.Place.{at-fits, size-fits}
+use Rattle.lent_lists.proofs.Steps.{whiles, frees, frees-room}
+use Rattle.lent_lists.proofs.Turns.{left-over, no-more-of, is-some, one-less, before}
+use Rattle.lent_lists.proofs.Walks.{Lives, Spec, walked, calls, typed}
 
 -- ---- lists
 length-made : {C E : Type 0} (step : C → C) (of : C → E) (n : ℕ) (c : C) → length (made step of n c) ≡ n
