@@ -13,8 +13,8 @@ use Rattle.where_label.proofs.find.inside.Met as inside
 use Rattle.where_label.proofs.find.touching.Met as touching
 use Rattle.where_label.proofs.nearest.nearest.Met as nearest
 use Rattle.dots_label.proofs.label.to_300.Met as to-300
-use Rattle.writing.proofs.write.write.Met as write
-use Rattle.writing.proofs.plain.write_plain.Met as write-plain
+use Rattle.writing_element.proofs.write.write.Met as write
+use Rattle.writing_element.proofs.plain.write_plain.Met as write-plain
 use Rattle.writing_label.proofs.label.write_label.Met as write-label
 use Rattle.writing_label.proofs.at_300.write_label_300.Met as write-label-300
 use Rattle.laddertick.specs.Proved.{Proved}

@@ -11,8 +11,8 @@ use Rattle.structs.specs.declared.answer.Element.{Element}
 use Rattle.structs.specs.Flat.{flatElement}
 use Rattle.structs_read.specs.Unflat.{Stands}
 use Rattle.structs_read.proofs.UnflatLaws.{told}
-use Rattle.writing.specs.Plain.{plainDue}
-use Rattle.writing.proofs.PlainLaws.{plain-flat, plain-long, plain-none}
+use Rattle.writing_element.specs.Plain.{plainDue}
+use Rattle.writing_element.proofs.PlainLaws.{plain-flat, plain-long, plain-none}
 use Rattle.writing_label.specs.Label.{plainLabelDue, plainLabelDue300}
 use Rattle.writing_label.proofs.LabelLaws.{label-long}
 use Rattle.spellings.specs.Due.{elementDue}

@@ -10,7 +10,7 @@ use Rattle.elements.specs.declared.LabelElement.{LabelElement}
 use Rattle.elements.specs.declared.PrintCounts.{PrintCounts}
 use Rattle.spellings.specs.Due.{elementDue}
 use Rattle.structs.specs.declared.answer.Element.{Element}
-use Rattle.writing.specs.Plain.{plainDue}
+use Rattle.writing_element.specs.Plain.{plainDue}
 use Rattle.writing_label.specs.Label.{plainLabelDue, plainLabelDue300}
 use Rattle.elements.specs.declared.walk_state.WalkState.{WalkState}
 use Rattle.elements.specs.Given.{bytes, refused, Fills, givenOf}

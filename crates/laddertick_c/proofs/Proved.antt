@@ -77,7 +77,7 @@ use Rattle.laddertick_c.proofs.laddertick_write_label.Met as write-labe
 use Rattle.laddertick_c.proofs.laddertick_write_label_300 as write-label-300-fn
 use Rattle.laddertick_c.proofs.laddertick_write_label_300.Statement as write-label-300
 use Rattle.laddertick_c.proofs.laddertick_write_label_300.Met as write-label-300-met
-use Rattle.writing.specs.Plain.{plainDue}
+use Rattle.writing_element.specs.Plain.{plainDue}
 use Rattle.writing_label.specs.Label.{plainLabelDue, plainLabelDue300}
 use Rattle.dots_label.specs.Conversion.{conversionOf, Converts}
 use Rattle.laddertick_c.proofs.laddertick_to_300 as to-300-fn

@@ -18,7 +18,7 @@ ghost use Rattle.strict.specs.Listing.{strictDueOf};
 ghost use Rattle.elements.specs.Walk.{fresh};
 ghost use Rattle.walk.specs.Steps.{stateOf};
 ghost use Rattle.structs.specs.Steps.{flatOf};
-ghost use Rattle.writing.specs.Plain.{plainDue};
+ghost use Rattle.writing_element.specs.Plain.{plainDue};
 ghost use Rattle.writing_label.specs.Label.{plainLabelDue, plainLabelDue300};
 use decoding::data::decode;
 use elements::DataSpan;

@@ -26,8 +26,8 @@ use Rattle.spellings.specs.Due.{noLabel}
 use Rattle.spellings.specs.Spelled.{ended, commandFor, spell, spellAll, spellLabel}
 use Rattle.spellings.specs.Writable.{writable}
 use Rattle.structs_read.specs.Unflat.{standing, elementOf}
-use Rattle.writing.specs.Place.{placedAt, textOf}
-use Rattle.writing.specs.Plain.{plainDue}
+use Rattle.writing_element.specs.Place.{placedAt, textOf}
+use Rattle.writing_element.specs.Plain.{plainDue}
 use Rattle.writing_label.specs.declared.tally.Tally.{Tally}
 use Rattle.writing_label.specs.Tally.{onto, tally, turned, TurnOf, firstNone, texts}
 use Rattle.writing_label.specs.Plan.{measured, printText, answerIn, planOf, beginOf, finishOf}

@@ -18,7 +18,7 @@ use borrow.Author.Tests.{le-leb, eqb-true, eqb-false}
 use Rattle.text.proofs.BoolLaws.{test}
 use Rattle.text.proofs.WroteLaws.{sets-append}
 use Rattle.lent_lists.specs.Passed.{Passes}
-use Rattle.writing.specs.Place.{placedAt}
+use Rattle.writing_element.specs.Place.{placedAt}
 use Rattle.writing_label.specs.declared.tally.Tally.{Tally}
 use Rattle.writing_label.specs.Tally.{onto, stoppedOf, tally, afterOf, turned, Turns, firstNone, texts}
 

@@ -13,7 +13,7 @@ use Rattle.elements.specs.declared.refusal.Refusal.the-variants.{InputTooLong, 
 use Rattle.elements.specs.Given.{longest}
 use Rattle.spellings.specs.Due.{noLabel}
 use Rattle.spellings.specs.Spelled.{ended, printLine}
-use Rattle.writing.specs.Place.{placedAt}
+use Rattle.writing_element.specs.Place.{placedAt}
 use Rattle.writing_label.specs.declared.tally.Tally.{Tally}
 use Rattle.writing_label.specs.Tally.{tally, onto}
 

@@ -7,8 +7,8 @@ use lib.Dec.{eqb, leb}
 use lib.ListN.{length}
 use Rattle.structs.specs.declared.answer.Element.{Element}
 use Rattle.dots.specs.declared.element.Element300.{Element300}
-use Rattle.writing.specs.Place.{placedAt, textOf}
-use Rattle.writing.specs.Plain.{plainDue}
+use Rattle.writing_element.specs.Place.{placedAt, textOf}
+use Rattle.writing_element.specs.Plain.{plainDue}
 use Rattle.writing_label.specs.declared.tally.Tally.{Tally}
 use Rattle.writing_label.specs.Label.{at300}
 

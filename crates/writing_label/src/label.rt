@@ -20,7 +20,7 @@ use elements::filled::Filled;
 use elements::refusal::LONGEST;
 use elements::refusal::Refusal;
 use structs::answer::Element;
-use writing::place::is_room;
+use writing_element::place::is_room;
 
 // Before the first element, which stands behind `N` and its LF.
 pub(crate) fn measuring() -> Tally

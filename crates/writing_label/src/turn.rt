@@ -3,7 +3,7 @@ ghost use Rattle.writing_label.specs.Tally.{TurnOf};
 use crate::tally::Tally;
 use crate::tally::after;
 use structs::answer::Element;
-use writing::place::put_plain;
+use writing_element::place::put_plain;
 
 // It is measured, or written behind the one before.
 pub(crate) fn turn(input: &[u8], out: &mut [u8], x: Element, c: Tally) -> Tally

@@ -5,7 +5,7 @@ use native.Mathlib.Omega.{arith}
 use lib.ListN.{length}
 use mir.Facts.{toZ-ofZ}
 use Rattle.elements.specs.declared.filled.Filled.the-variants.{Bytes}
-use Rattle.writing.proofs.PlaceLaws.{room-ends, placed-in, placed-out}
+use Rattle.writing_element.proofs.PlaceLaws.{room-ends, placed-in, placed-out}
 use Rattle.writing_label.specs.Plan.{printText}
 use borrow.Author.Needs.{needs}
 use Rattle.writing_label.proofs.label.finish.Statement.{statement}

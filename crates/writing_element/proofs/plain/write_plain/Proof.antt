@@ -1,0 +1,49 @@
+-- `writing_element::plain::write_plain` meets its contract. Assumes nothing.
+use mathlib.Core.Path.{refl, sym, _∙_}
+use denote.Ref.{now}
+use Rattle.writing_element.proofs.WriteLaws.{fills-due}
+use Rattle.writing_element.proofs.PlainLaws.{plain-long, plain-good, plain-bad}
+use borrow.Author.Needs.{needs}
+use Rattle.writing_element.proofs.plain.write_plain.Statement.{statement}
+use Rattle.writing_element.proofs.plain.write_plain.Tie as tie
+
+returns : tie.Need-returns
+returns c =
+    let a = c .before .before .before in
+    fills-due (plain-long (now (a .args .input)) (a .args .x) (c .if1 .taken)) (record { answer = refl; buffer = refl })
+
+is-element-requires : tie.Need-is-element-requires
+is-element-requires c κs = search needs
+
+element-of-requires : tie.Need-element-of-requires
+element-of-requires c κs = search needs
+
+write-requires : tie.Need-write-requires
+write-requires c κs = search needs
+
+same-length : tie.Need-same-length
+same-length c = search needs
+
+returns-2 : tie.Need-returns-2
+returns-2 c =
+    let a = c .before .before .before .before .before .before .before .before .before .before in
+    let b = sym (c .before .before .before .before .before .before .is-element .ensures) ∙ c .before .before .before .before .before .if2 .taken in
+    fills-due (plain-good (now (a .args .input)) (a .args .x) b) (rw (c .before .before .before .before .element-of .ensures) at (c .before .before .write .ensures))
+
+returns-3 : tie.Need-returns-3
+returns-3 c =
+    let a = c .before .before .before .before .before in
+    let b = sym (c .before .is-element .ensures) ∙ c .if2 .left in
+    fills-due (plain-bad (now (a .args .input)) (a .args .x) (c .before .before .if1 .left) b) (record { answer = refl; buffer = refl })
+
+pub write-plain-spec : {M : Type 1} → statement M
+write-plain-spec =
+    tie.close
+    (tie.spec
+    returns
+    is-element-requires
+    element-of-requires
+    write-requires
+    same-length
+    returns-2
+    returns-3)
