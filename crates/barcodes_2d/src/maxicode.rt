@@ -6,7 +6,7 @@ ghost use Rattle.barcodes_2d.specs.Maxicode.{headerAt, headerPlace, post
 use bytes::utf8::decoded_len;
 use bytes::utf8::part_len;
 use bytes::utf8::shown_len;
-use classes::class::is_digit;
+use byte_classes::class::is_digit;
 
 // s starts with 5b 29 3e 1e 30 31 1d.
 pub(crate) fn header_at(s: &[u8]) -> bool

@@ -1,7 +1,7 @@
 // Runs of one class of bytes.
 ghost use mathlib.Core.Path.{_≡_};
 ghost use Rattle.text.specs.Class.{digitRun};
-use classes::class::is_digit;
+use byte_classes::class::is_digit;
 
 // How many digits s begins with.
 pub fn digit_run(s: &[u8]) -> usize

@@ -5,7 +5,7 @@ ghost use lib.ListN.{getD};
 ghost use Rattle.text.specs.Ascii.{spelt};
 ghost use Rattle.command_letters.specs.Command.{isReference, isPrint, commandOf};
 use crate::print::is_counts;
-use classes::class::is_digit;
+use byte_classes::class::is_digit;
 use elements::LineColor;
 use parameters::params::tail;
 

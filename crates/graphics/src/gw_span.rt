@@ -6,7 +6,7 @@ ghost use Prim.Native.Nat.{_+_, _<_, _≤_};
 ghost use lib.ListN.{length};
 ghost use Rattle.text.specs.Blank.{dropWhile};
 ghost use Rattle.graphics.specs.Block.{isLineBlank, opensGw, inField, measured, gwSpan, graphicAt, blockReading, laterBlock, FieldLen, HeaderRead};
-use classes::class::is_ascii_blank;
+use byte_classes::class::is_ascii_blank;
 use elements::DataSpan;
 use elements::GraphicField;
 use elements::LabelElement;

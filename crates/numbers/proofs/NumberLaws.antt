@@ -16,7 +16,7 @@ use lib.IntN.{pos, negsuc, negℤ, _-ℤ_}
 use lib.Signed.{mag}
 use borrow.Author.Tests.{le-leb, lt-leb, lt-ltb, le-ltb, leb-true, leb-false}
 use Rattle.text.specs.Class.{isDigit}
-use Rattle.classes.specs.Classes.{isSign}
+use Rattle.byte_classes.specs.Classes.{isSign}
 use Rattle.text.proofs.BoolLaws.{test, or-cases}
 use Rattle.numbers.specs.Number.{valueFrom, digitsOf, capped, ranged, signed, numberSpelled}
 use Rattle.numbers.specs.declared.number.Number.the-variants.{Value, Empty, NoNumber, Beyond}

@@ -5,7 +5,7 @@ ghost use mathlib.Core.List.{reverse};
 ghost use Rattle.text.specs.Blank.{isAsciiBlank, dropWhile, dropEnd, isBlank1, isBlank2, isBlank3, isBlank, back, sizeOf, trimStart, trimEnd, trim};
 ghost use Rattle.text.specs.Utf8.{within};
 ghost use lib.ListN.{take};
-use classes::class::is_ascii_blank;
+use byte_classes::class::is_ascii_blank;
 use text::num::min;
 
 // A Unicode blank of one byte: an ASCII blank, or 0b.

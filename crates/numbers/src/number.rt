@@ -6,8 +6,8 @@ ghost use Prim.Native.Nat.{_≤_, min};
 ghost use lib.IntN.{pos, negℤ};
 ghost use Rattle.numbers.specs.Number.{digitsOf, capped, signed, numberSpelled, fieldNumber, numberOr, fieldOr};
 use crate::blank::trim;
-use classes::class::is_digit;
-use classes::class::is_sign;
+use byte_classes::class::is_digit;
+use byte_classes::class::is_sign;
 
 // What a field held. Its form comes before its range: 99999999999x is no number, 99999999999 is one beyond 32 bits.
 pub enum Number {

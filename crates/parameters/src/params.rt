@@ -13,7 +13,7 @@ use crate::field_reader::new;
 use crate::field_reader::next_number;
 use crate::field_reader::rest;
 use bytes::fields::first_field;
-use classes::class::is_digit;
+use byte_classes::class::is_digit;
 use elements::LabelPosition;
 use numbers::blank::trim;
 use numbers::int::max;

@@ -6,7 +6,7 @@ use Prim.Native.Nat.{ℕ}
 use lib.Dec.{eqb}
 use borrow.Author.Needs.{needs}
 use Rattle.text.specs.Blank.{isAsciiBlank}
-use Rattle.classes.proofs.TableLaws.{bytes}
+use Rattle.byte_classes.proofs.TableLaws.{bytes}
 use Rattle.graphics.specs.Block.{isLineBlank}
 use Rattle.graphics.proofs.gw_span.is_line_blank.Statement.{statement}
 use Rattle.graphics.proofs.gw_span.is_line_blank.Tie as tie

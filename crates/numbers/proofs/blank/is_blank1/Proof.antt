@@ -5,7 +5,7 @@ use Prim.Native.Nat.{ℕ}
 use lib.Dec.{eqb}
 use borrow.Author.Needs.{needs}
 use Rattle.text.specs.Blank.{isAsciiBlank, isBlank1}
-use Rattle.classes.proofs.TableLaws.{bytes}
+use Rattle.byte_classes.proofs.TableLaws.{bytes}
 use Rattle.numbers.proofs.blank.is_blank1.Statement.{statement}
 use Rattle.numbers.proofs.blank.is_blank1.Tie as tie
 

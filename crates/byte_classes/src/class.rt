@@ -4,7 +4,7 @@ ghost use mathlib.Core.Path.{_≡_};
 ghost use Prim.Native.Nat.{_<_};
 ghost use Rattle.text.specs.Blank.{isAsciiBlank};
 ghost use Rattle.text.specs.Class.{isDigit, isLetter};
-ghost use Rattle.classes.specs.Classes.{isSign, isOf, rowOf};
+ghost use Rattle.byte_classes.specs.Classes.{isSign, isOf, rowOf};
 
 // The class of each byte, one hexadecimal digit: 1 a letter, 2 a digit, 4 an ASCII blank, 8 a sign, 0 none of these.
 // Sixteen bytes to a row, the first rightmost.

@@ -5,9 +5,9 @@ use mathlib.Core.Path.{_≡_, sym, ap}
 use Prim.Native.Nat.{ℕ, suc, _≤_}
 use native.Mathlib.Omega.{arith}
 use borrow.Author.Needs.{needs}
-use Rattle.classes.specs.Classes.{classOf, rowFrom, rowOf}
-use Rattle.classes.proofs.class.row.Statement.{statement}
-use Rattle.classes.proofs.class.row.Tie as tie
+use Rattle.byte_classes.specs.Classes.{classOf, rowFrom, rowOf}
+use Rattle.byte_classes.proofs.class.row.Statement.{statement}
+use Rattle.byte_classes.proofs.class.row.Tie as tie
 
 up : (i k : ℕ) → k ≤ i → (i ≡ k → ⊥) → suc k ≤ i
 up i k h n = omega arith

@@ -9,7 +9,7 @@ use lib.Bits.{bitAnd}
 use lib.Dec.{T, eqb}
 use borrow.Author.Tests.{eqb-true, eqb-false}
 use Rattle.text.proofs.BoolLaws.{test}
-use Rattle.classes.specs.Classes.{isOf, classOf, rowFrom, rowOf}
+use Rattle.byte_classes.specs.Classes.{isOf, classOf, rowFrom, rowOf}
 
 abbrev both : Bool → Bool → Bool
 both true b = b

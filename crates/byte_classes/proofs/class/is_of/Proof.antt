@@ -6,10 +6,10 @@ use lib.Bits.{bitAnd}
 use lib.Dec.{eqb}
 use borrow.Author.Tests.{ne-eqb}
 use borrow.Author.Needs.{needs}
-use Rattle.classes.specs.Classes.{isOf}
-use Rattle.classes.proofs.TableLaws.{placed, rule}
-use Rattle.classes.proofs.class.is_of.Statement.{statement}
-use Rattle.classes.proofs.class.is_of.Tie as tie
+use Rattle.byte_classes.specs.Classes.{isOf}
+use Rattle.byte_classes.proofs.TableLaws.{placed, rule}
+use Rattle.byte_classes.proofs.class.is_of.Statement.{statement}
+use Rattle.byte_classes.proofs.class.is_of.Tie as tie
 
 -- what the row says of b is b's class
 told : (c : tie.After-row) → let a = c .before .args in placed (bitAnd (c .row .result / 2 ^ a .k) 0x1111111111111111) (a .b) ≡ isOf (a .k) (a .b)
