@@ -55,10 +55,10 @@ use Rattle.grammar.proofs.Normalises.{normalises}
 use Rattle.grammar.proofs.BecomesLaws.{becomes}
 use Rattle.grammar.proofs.WellFormedLaws.{ill-formed, well-formed-range}
 use Rattle.grammar.proofs.EplLaws.{inside}
-use Rattle.changes.specs.OneLine.{Ending, unitOf, Replaced}
-use Rattle.changes.proofs.LineLaws.{next-of, unit-role}
-use Rattle.changes.proofs.OneLineLaws as changes
-use Rattle.changes.proofs.OneLineLaws.{old-division, new-division}
+use Rattle.line_changes.specs.OneLine.{Ending, unitOf, Replaced}
+use Rattle.line_changes.proofs.LineLaws.{next-of, unit-role}
+use Rattle.line_changes.proofs.OneLineLaws as changes
+use Rattle.line_changes.proofs.OneLineLaws.{old-division, new-division}
 use Rattle.walk.specs.declared.answer.Answer.{Answer}
 use Rattle.walk.specs.Steps.{answerOf}
 use Rattle.structs.proofs.FramesLaws.{flat-frame, flat-kind, flat-next}

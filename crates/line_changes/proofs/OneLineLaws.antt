@@ -24,9 +24,9 @@ use Rattle.grammar.specs.Ranges.{refAfter, InRange, Role, passes, clears, yield
 use Rattle.grammar.specs.Divided.{yieldedBy, labelsBy}
 use Rattle.grammar.proofs.FoundLaws.{reads, firm}
 use Rattle.grammar.proofs.DividedLabelsLaws.{labels-in-range}
-use Rattle.changes.specs.OneLine.{Ending, unitOf, Changeable, EndsBy, Replaced, Is, Between, saysOf, refBy, pendingIn, yieldedBehind, atHand, InLabel, Counted}
-use Rattle.changes.proofs.LineLaws.{not-empty, line-alone, unit-ref, plain-unit}
-use Rattle.changes.proofs.FateLaws.{Doing, doing, doing-append, run-by, fate-between, fate-clear, fate-print, yielded-is}
+use Rattle.line_changes.specs.OneLine.{Ending, unitOf, Changeable, EndsBy, Replaced, Is, Between, saysOf, refBy, pendingIn, yieldedBehind, atHand, InLabel, Counted}
+use Rattle.line_changes.proofs.LineLaws.{not-empty, line-alone, unit-ref, plain-unit}
+use Rattle.line_changes.proofs.FateLaws.{Doing, doing, doing-append, run-by, fate-between, fate-clear, fate-print, yielded-is}
 
 -- ---- where the line stands
 -- a string that the line begins and that divides, divides into it and others

@@ -16,9 +16,9 @@ use Rattle.grammar.specs.Ranges.{refAfter, InRange, Role, passes, clears, yield
 use Rattle.grammar.specs.Divided.{yieldedBy, pendingAfter, printedBy, labelsBy}
 use Rattle.grammar.proofs.RangesLaws.{in-range}
 use Rattle.grammar.proofs.DividedLabelsLaws.{role-goes}
-use Rattle.changes.specs.OneLine.{Quiet, Is, Between, saysOf, refBy, pendingIn}
+use Rattle.line_changes.specs.OneLine.{Quiet, Is, Between, saysOf, refBy, pendingIn}
 use Rattle.command_letters.specs.declared.command.Command.the-variants.{Clear, Print}
-use Rattle.changes.proofs.LineLaws.{not-clears, not-prints, between-role, clear-role, print-role}
+use Rattle.line_changes.proofs.LineLaws.{not-clears, not-prints, between-role, clear-role, print-role}
 
 -- each unit does what its role says, from the reference r on
 abbrev pub Doing : LabelPosition → List EplUnit → Type 0

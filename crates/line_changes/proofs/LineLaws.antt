@@ -30,7 +30,7 @@ use Rattle.grammar.proofs.FoundBlockLaws.{span-none}
 use Rattle.grammar.proofs.FoundLaws.{judged-sound}
 use Rattle.grammar.proofs.WellFormedLaws.{ill-formed}
 use Rattle.grammar.proofs.RangesLaws.{line-acts}
-use Rattle.changes.specs.OneLine.{Ending, lf, end, unitOf, Changeable, EndsBy, Quiet, Is, Next, an-n, a-print, the-end, saysOf}
+use Rattle.line_changes.specs.OneLine.{Ending, lf, end, unitOf, Changeable, EndsBy, Quiet, Is, Next, an-n, a-print, the-end, saysOf}
 
 -- ---- where it stands, nothing else does
 line-first : (t rest : List ℕ) → All notLf t → (Opens t → ⊥) → (w : EplUnit) (x : List ℕ) → first (bytes (line t) ++ rest) ≡ unit w x → (w ≡ line t) × (x ≡ rest)

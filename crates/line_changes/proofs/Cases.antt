@@ -21,7 +21,7 @@ use Rattle.grammar.proofs.FrontLaws.{front-all}
 use Rattle.grammar.proofs.UnitsOpensLaws.{opens-not}
 use Rattle.grammar.proofs.SpelledLaws.{spelled}
 use Rattle.grammar.proofs.FoundLaws.{reads}
-use Rattle.changes.specs.OneLine.{lf, end, Changeable, Replaced}
+use Rattle.line_changes.specs.OneLine.{lf, end, Changeable, Replaced}
 
 box : Changeable (ascii "LO1,2,3,4")
 unfolding opensGw commandOf isReference isPrint
