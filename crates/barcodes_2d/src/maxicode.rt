@@ -3,10 +3,10 @@
 ghost use mathlib.Core.Path.{_≡_};
 ghost use Rattle.text.specs.Utf8.{decode};
 ghost use Rattle.barcodes_2d.specs.Maxicode.{headerAt, headerPlace, postal, autoMode};
+use byte_classes::class::is_digit;
 use bytes::utf8::decoded_len;
 use bytes::utf8::part_len;
 use bytes::utf8::shown_len;
-use byte_classes::class::is_digit;
 
 // s starts with 5b 29 3e 1e 30 31 1d.
 pub(crate) fn header_at(s: &[u8]) -> bool

@@ -9,6 +9,11 @@ use barcodes_2d::barcode_2d::parse_epl_2d_barcode;
 use bytes::fields::before_last;
 use bytes::fields::without_trailing_commas;
 use bytes::scan::find;
+use command_letters::command::Command;
+use command_letters::command::DataCommand;
+use command_letters::command::command_of;
+use command_letters::print::parse_epl_print;
+use command_letters::reference::parse_epl_reference;
 use draws::draw::parse_epl_box;
 use draws::draw::parse_epl_diagonal;
 use draws::draw::parse_epl_line;
@@ -20,11 +25,6 @@ use numbers::blank::trim_start;
 use parameters::params::tail;
 use parameters::params::tail_two;
 use parameters::reading::LineReading;
-use command_letters::command::Command;
-use command_letters::command::DataCommand;
-use command_letters::command::command_of;
-use command_letters::print::parse_epl_print;
-use command_letters::reference::parse_epl_reference;
 use texts::epl_text::parse_epl_text;
 
 // A command with its parameters, its data and the data's place.

@@ -3,11 +3,11 @@ ghost use Rattle.elements.specs.Given.{Fills, givenOf};
 ghost use Rattle.decoding.specs.Decoding.{dueOf};
 use bytes::utf8::decoded_len;
 use bytes::utf8::write_decoded;
-use frame_bytes::data::part;
 use elements::DataSpan;
 use elements::filled::Filled;
 use elements::refusal::LONGEST;
 use elements::refusal::Refusal;
+use frame_bytes::data::part;
 
 // No byte is decoded to more than three.
 pub const DECODED_MAX: usize = 50331648;

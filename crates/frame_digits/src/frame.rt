@@ -8,6 +8,9 @@ ghost use Rattle.frame_bytes.specs.Hex.{lineOf};
 ghost use Rattle.frame_bytes.specs.Put.{PutHex};
 use crate::kinds::fields_len;
 use crate::kinds::put_fields;
+use elements::LabelElement;
+use elements::PrintCounts;
+use elements::plain::plain_of;
 use frame_bytes::data::put_data;
 use frame_bytes::data::with_data;
 use frame_bytes::fields::put_head;
@@ -15,9 +18,6 @@ use frame_bytes::hex::put_byte;
 use frame_bytes::hex::put_i32;
 use frame_bytes::hex::put_lf;
 use frame_bytes::hex::put_u32;
-use elements::LabelElement;
-use elements::PrintCounts;
-use elements::plain::plain_of;
 
 // The digits of an element's frame.
 fn put_element(input: &[u8], out: &mut [u8], at: usize, e: LabelElement) -> usize

@@ -6,16 +6,6 @@ ghost use lib.ListN.{length};
 ghost use Rattle.elements.specs.declared.plain.Fields.the-variants as fields;
 ghost use Rattle.frame_bytes.specs.Frame.{extentBytes, rowBytes, scaleBytes, fieldBytes};
 ghost use Rattle.frame_bytes.specs.Put.{PutHex};
-use frame_bytes::fields::colour;
-use frame_bytes::fields::flag;
-use frame_bytes::fields::level;
-use frame_bytes::fields::mode;
-use frame_bytes::fields::put_bars;
-use frame_bytes::fields::put_flag;
-use frame_bytes::fields::put_rotation;
-use frame_bytes::hex::put_byte;
-use frame_bytes::hex::put_f64;
-use frame_bytes::hex::put_i32;
 use elements::BarcodeAztec;
 use elements::BarcodeDatamatrix;
 use elements::BarcodeMode;
@@ -27,6 +17,16 @@ use elements::QrErrorCorrectionLevel;
 use elements::plain::Bars;
 use elements::plain::Extent;
 use elements::plain::Fields;
+use frame_bytes::fields::colour;
+use frame_bytes::fields::flag;
+use frame_bytes::fields::level;
+use frame_bytes::fields::mode;
+use frame_bytes::fields::put_bars;
+use frame_bytes::fields::put_flag;
+use frame_bytes::fields::put_rotation;
+use frame_bytes::hex::put_byte;
+use frame_bytes::hex::put_f64;
+use frame_bytes::hex::put_i32;
 
 // The font's number and the multipliers.
 fn put_scale(out: &mut [u8], at: usize, s: FontScale) -> usize

@@ -22,12 +22,6 @@ ghost use Rattle.writing_element.specs.Plain.{plainDue};
 ghost use Rattle.writing_label.specs.Label.{plainLabelDue, plainLabelDue300};
 use decoding::data::decode;
 use elements::DataSpan;
-use structs::answer::FlatAnswer;
-use structs::steps::flat_step;
-use structs::written::Written;
-use structs::written::of_filled;
-use structs::written::of_found;
-use structs::written::of_indexed;
 use laddertick::Checked;
 use laddertick::Element;
 use laddertick::Element300;
@@ -53,6 +47,12 @@ use laddertick::touching;
 use laddertick::write_label;
 use laddertick::write_label_300;
 use laddertick::write_plain;
+use structs::answer::FlatAnswer;
+use structs::steps::flat_step;
+use structs::written::Written;
+use structs::written::of_filled;
+use structs::written::of_found;
+use structs::written::of_indexed;
 
 // The state before the first byte.
 #[no_mangle]

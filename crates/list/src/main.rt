@@ -1,10 +1,10 @@
 // The listing program: standard input to frames, one a line.
 ghost use Rattle.file_listing.specs.Listing.{dueOf};
 ghost use Rattle.file_listing.specs.Printing.{Shows};
-use frame_bytes::data::part;
 use elements::DataSpan;
 use file_listing::printing::PROGRAM_MAX;
 use file_listing::printing::print_listing;
+use frame_bytes::data::part;
 use numbers::blank::first;
 
 // One byte more than an input may have, to tell one that is too long.

@@ -18,6 +18,9 @@ use bytes::fields::first_field;
 use bytes::fields::without_trailing_commas;
 use bytes::scan::find;
 use bytes::scan::line_size;
+use command_letters::command::DataCommand;
+use command_letters::command::byte_at;
+use command_letters::command::is_epl_reference_point;
 use graphics::gw_span::Graphic;
 use graphics::gw_span::gw_span;
 use graphics::gw_span::trim_line_start;
@@ -25,9 +28,6 @@ use numbers::blank::trim;
 use parameters::params::has_fields;
 use parameters::params::tail;
 use parameters::params::tail_two;
-use command_letters::command::DataCommand;
-use command_letters::command::byte_at;
-use command_letters::command::is_epl_reference_point;
 
 // `R`: x, then all after the first comma as y, if there is a comma.
 fn reference_objection(s: &[u8]) -> Objection

@@ -4,9 +4,9 @@
 ghost use mathlib.Core.Path.{_≡_};
 ghost use Prim.Native.Nat.{_<_};
 ghost use lib.ListN.{length};
-use frame_bytes::data::part;
 use elements::DataSpan;
 use file_listing::printing::print_listing;
+use frame_bytes::data::part;
 
 fn main() {
     let mut cases = [0u8; 524288];

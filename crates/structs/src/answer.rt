@@ -1,13 +1,13 @@
 // The flat element, the parts of one that several kinds have, and the flat answer that carries it.
 ghost use mathlib.Core.Path.{_≡_};
 ghost use Rattle.structs.specs.Flat.{placed, barred, nothing, event, printed, answered};
-use frame_bytes::fields::flag;
-use frame_bytes::fields::rotation;
 use elements::DataSpan;
 use elements::FieldOrientation;
 use elements::LabelPosition;
 use elements::PrintCounts;
 use elements::walk_state::WalkState;
+use frame_bytes::fields::flag;
+use frame_bytes::fields::rotation;
 
 // What a command draws. A field that is none of its kind's is 0.
 #[repr(C)]

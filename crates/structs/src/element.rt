@@ -5,11 +5,6 @@ ghost use Rattle.structs.specs.Flat.{flatElement};
 use crate::answer::Element;
 use crate::answer::barred;
 use crate::answer::placed;
-use frame_bytes::fields::colour;
-use frame_bytes::fields::flag;
-use frame_bytes::fields::level;
-use frame_bytes::fields::mode;
-use frame_bytes::fields::rotation;
 use elements::Barcode2of5WithData;
 use elements::Barcode39WithData;
 use elements::Barcode128WithData;
@@ -28,6 +23,11 @@ use elements::GraphicField;
 use elements::LabelElement;
 use elements::MaxicodeWithData;
 use elements::TextField;
+use frame_bytes::fields::colour;
+use frame_bytes::fields::flag;
+use frame_bytes::fields::level;
+use frame_bytes::fields::mode;
+use frame_bytes::fields::rotation;
 
 // Kind 01.
 fn text_field(e: TextField) -> Element

@@ -5,8 +5,8 @@ ghost use Rattle.label_index.specs.Plan.{countedOf};
 ghost use Rattle.where_label.specs.Found.{givenFound, spotOf};
 ghost use Rattle.structs.specs.Written.{givenFlat, countedFlat, spotFlat};
 use elements::filled::Filled;
-use where_label::found::Found;
 use label_index::labels::Indexed;
+use where_label::found::Found;
 
 // number 0: the text or the list is written, place is its length; or place is the number of an element. Else a refusal:
 // its number and its place.

@@ -42,9 +42,9 @@ use elements::Maxicode;
 use elements::MaxicodeWithData;
 use elements::QrErrorCorrectionLevel;
 use elements::TextField;
+use numbers::int::equal;
 use structs::answer::Element;
 use structs::element::flat_element;
-use numbers::int::equal;
 
 // Quarter turns; any other number is none.
 fn orientation_of(r: u8) -> FieldOrientation

@@ -3,9 +3,9 @@ ghost use mathlib.Core.Path.{_≡_};
 ghost use Rattle.spellings.specs.Fonts.{sameBits};
 ghost use Rattle.structs_read.specs.Unflat.{sameFlags, samePlaces, sameCounts, sameModules, sameScales, sameSizes};
 ghost use Rattle.structs_read.specs.Unflat.{sameData, sameElement};
-use structs::answer::Element;
 use numbers::float;
 use numbers::int::equal;
+use structs::answer::Element;
 
 // Two f64 have the same bits.
 pub fn same_bits(a: f64, b: f64) -> bool

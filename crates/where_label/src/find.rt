@@ -16,12 +16,12 @@ use label_index::entry::entry_or;
 use label_index::entry::no_entry;
 use label_opening::start::Start;
 use label_opening::start::start_of;
+use walk::answer::Answer;
+use walk::step::step;
 use where_element::element::is_in;
 use where_element::element::is_on;
 use where_element::place::Rectangle;
 use where_element::place::is_turned;
-use walk::answer::Answer;
-use walk::step::step;
 
 // What is asked: by their own rectangles, or by their positions.
 pub struct Look {

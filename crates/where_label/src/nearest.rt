@@ -12,9 +12,9 @@ use label_index::entry::entry_or;
 use label_index::entry::no_entry;
 use label_opening::start::Start;
 use label_opening::start::start_of;
-use where_element::element::distance_of;
 use walk::answer::Answer;
 use walk::step::step;
+use where_element::element::distance_of;
 
 // The nearest so far.
 pub struct Best {

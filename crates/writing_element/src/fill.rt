@@ -10,11 +10,11 @@ ghost use Rattle.writing_element.specs.Fill.{letterAt, letterOf, slot, S
 use bytes::put::put_bytes;
 use decimals::decimal::decimal_len;
 use decimals::decimal::put_decimal;
-use structs::answer::Element;
 use numbers::int::Checked;
 use numbers::int::bits;
 use numbers::int::checked_add;
 use numbers::int::equal;
+use structs::answer::Element;
 
 // The field i of an element, from 0.
 pub(crate) fn field_at(e: Element, i: u8) -> i32

@@ -13,15 +13,15 @@ use crate::fill::field_at;
 use barcodes::ratio::bar_ratio;
 use bytes::scan::find;
 use bytes::utf8::decoded_len;
-use structs::answer::Element;
 use numbers::int;
 use numbers::int::Checked;
 use numbers::int::checked_add;
 use numbers::int::equal;
 use numbers::int::min;
+use structs::answer::Element;
+use structs_read::same::same_bits;
 use texts::fonts::Scaled;
 use texts::fonts::font_info;
-use structs_read::same::same_bits;
 
 // lo <= z, and z <= hi unless hi is 255.
 fn between(z: i32, lo: u8, hi: u8) -> bool

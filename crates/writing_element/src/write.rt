@@ -14,12 +14,12 @@ use crate::fine::is_line;
 use crate::fine::is_number;
 use crate::template::command_len;
 use crate::template::put_command;
-use frame_bytes::data::part;
 use elements::DataSpan;
 use elements::LabelElement;
 use elements::filled::Filled;
 use elements::refusal::LONGEST;
 use elements::refusal::Refusal;
+use frame_bytes::data::part;
 use structs::answer::Element;
 use structs::element::flat_element;
 
