@@ -34,10 +34,11 @@ use Rattle.where_element.specs.Place.{isTurned, isTouching, Shared}
 use Rattle.where_element.specs.Element.{insideOf, touchingOf, nearestOf, distances, FirstLeast}
 use Rattle.where_element.proofs.ElementLaws.{nearest-is}
 use Rattle.where_element.proofs.PlaceLaws.{touching-shared, shared-touching}
-use Rattle.where_label.specs.declared.found.Found.{Found}
-use Rattle.where_label.specs.declared.found.Found.the-variants as found
-use Rattle.where_label.specs.Found as spots
-use Rattle.where_label.specs.Found.{ElementOpening, itself, openingOf, foundIn, checked, insideDue, touchingDue, nearestIn, givenFound, spotOf}
+use Rattle.where_element.specs.declared.found.Found.{Found}
+use Rattle.where_element.specs.declared.found.Found.the-variants as found
+use Rattle.where_element.specs.Found as spots
+use Rattle.where_element.specs.Found.{givenFound, spotOf}
+use Rattle.where_label.specs.Found.{ElementOpening, itself, openingOf, foundIn, checked, insideDue, touchingDue, nearestIn}
 use Rattle.laddertick.specs.Contracts.{Library, Finding, Filling, Denies, DeniesNumbers, GivesNumbers}
 use Rattle.laddertick.specs.Claims.{Lying}
 

@@ -11,7 +11,7 @@ use Rattle.label_opening.proofs.label.open_label.Met as open-label
 use Rattle.joining.proofs.join.join.Met as join
 use Rattle.where_label.proofs.find.inside.Met as inside
 use Rattle.where_label.proofs.find.touching.Met as touching
-use Rattle.where_label.proofs.nearest.nearest.Met as nearest
+use Rattle.where_nearest.proofs.nearest.nearest.Met as nearest
 use Rattle.dots_label.proofs.label.to_300.Met as to-300
 use Rattle.writing_element.proofs.write.write.Met as write
 use Rattle.writing_element.proofs.plain.write_plain.Met as write-plain

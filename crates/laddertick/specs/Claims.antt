@@ -70,9 +70,10 @@ use Rattle.label_index.specs.Entries.{entriesOf}
 use Rattle.where_element.specs.declared.place.Rectangle.{Rectangle}
 use Rattle.where_element.specs.Place.{isTurned, isTouching, Shared}
 use Rattle.where_element.specs.Element.{insideOf, touchingOf, distances, FirstLeast}
-use Rattle.where_label.specs.declared.found.Found.the-variants as found
-use Rattle.where_label.specs.Found as spots
-use Rattle.where_label.specs.Found.{itself, openingOf, spotOf}
+use Rattle.where_element.specs.declared.found.Found.the-variants as found
+use Rattle.where_element.specs.Found as spots
+use Rattle.where_element.specs.Found.{spotOf}
+use Rattle.where_label.specs.Found.{itself, openingOf}
 use Rattle.walk_theory.specs.Index as theory
 use Rattle.label_opening.specs.Opened as opening
 use Rattle.dots.specs.declared.element.Element300.{Element300}

@@ -31,8 +31,9 @@ use Rattle.label_opening.specs.Opened as opening
 use Rattle.joining.specs.declared.answer.Joined.{Joined}
 use Rattle.joining.specs.Join.{Joins}
 use Rattle.where_element.specs.declared.place.Rectangle.{Rectangle}
-use Rattle.where_label.specs.declared.found.Found.{Found}
-use Rattle.where_label.specs.Found.{insideDue, touchingDue, nearestDue, givenFound, spotOf}
+use Rattle.where_element.specs.declared.found.Found.{Found}
+use Rattle.where_element.specs.Found.{givenFound, spotOf}
+use Rattle.where_label.specs.Found.{insideDue, touchingDue, nearestDue}
 use Rattle.dots.specs.declared.element.Element300.{Element300}
 use Rattle.dots_label.specs.declared.label.Label300.{Label300}
 use Rattle.dots_label.specs.Conversion.{conversionOf, Converts}

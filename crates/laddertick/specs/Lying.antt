@@ -9,7 +9,8 @@ use Rattle.elements.specs.Given.{Due, text, denied}
 use Rattle.elements.specs.declared.LabelPosition.{LabelPosition}
 use Rattle.label_index.specs.declared.entry.LabelEntry.{LabelEntry}
 use Rattle.where_element.specs.declared.place.Rectangle.{Rectangle}
-use Rattle.where_label.specs.Found.{Spot, element, refused, insideDue, touchingDue, nearestDue}
+use Rattle.where_element.specs.Found.{Spot, element, refused}
+use Rattle.where_label.specs.Found.{insideDue, touchingDue, nearestDue}
 
 -- a file and its entries, the number of an entry, a rectangle or a point, and what is due
 pub data Row : Type 0 where

@@ -45,8 +45,8 @@ use Rattle.where_label.proofs.find.inside.Statement as inside
 use Rattle.where_label.proofs.find.inside as inside-fn
 use Rattle.where_label.proofs.find.touching.Statement as touching
 use Rattle.where_label.proofs.find.touching as touching-fn
-use Rattle.where_label.proofs.nearest.nearest.Statement as nearest
-use Rattle.where_label.proofs.nearest.nearest as nearest-fn
+use Rattle.where_nearest.proofs.nearest.nearest.Statement as nearest
+use Rattle.where_nearest.proofs.nearest.nearest as nearest-fn
 use Rattle.dots_label.proofs.label.to_300.Statement as to-300
 use Rattle.dots_label.proofs.label.to_300 as to-300-fn
 use Rattle.writing_element.proofs.write.write.Statement as write

@@ -10,7 +10,7 @@ use denote.Signed.{sint-vals, sint-tells, sint-lawful}
 use Rattle.lent_lists.proofs.Elem.{Elem, Datum}
 use Rattle.lent_lists.proofs.Walks.{Known}
 use Rattle.elements.specs.Given.{Given, givenOf}
-use Rattle.where_label.specs.Found.{givenFound, spotOf}
+use Rattle.where_element.specs.Found.{givenFound, spotOf}
 use Rattle.where_label.proofs.Data.{found}
 use Rattle.label_index.specs.Plan.{Counted, countedOf}
 use Rattle.label_index.proofs.Elems.{indexed}

@@ -10,7 +10,7 @@ use Rattle.elements.specs.Refusals.{numberOf}
 use Rattle.elements.specs.Given.{bytes, refused}
 use Rattle.label_index.specs.Plan as index
 use Rattle.label_index.specs.Plan.{counted}
-use Rattle.where_label.specs.Found as spots
+use Rattle.where_element.specs.Found as spots
 use Rattle.structs.specs.Written.{givenFlat, countedFlat, spotFlat}
 
 no-zero : (k : Refusal) → eqb (numberOf k) 0 ≡ false

@@ -4,8 +4,8 @@ use lib.Dec.{eqb}
 use Rattle.elements.specs.Given.{Given, bytes, refused}
 use Rattle.label_index.specs.Plan as index
 use Rattle.label_index.specs.Plan.{Counted, counted}
-use Rattle.where_label.specs.Found as spots
-use Rattle.where_label.specs.Found.{Spot}
+use Rattle.where_element.specs.Found as spots
+use Rattle.where_element.specs.Found.{Spot}
 use Rattle.structs.specs.declared.written.Written.{Written}
 
 -- number 0 is a length, any other a refusal

@@ -2,11 +2,11 @@
 ghost use mathlib.Core.Path.{_≡_};
 ghost use Rattle.elements.specs.Given.{givenOf};
 ghost use Rattle.label_index.specs.Plan.{countedOf};
-ghost use Rattle.where_label.specs.Found.{givenFound, spotOf};
+ghost use Rattle.where_element.specs.Found.{givenFound, spotOf};
 ghost use Rattle.structs.specs.Written.{givenFlat, countedFlat, spotFlat};
 use elements::filled::Filled;
 use label_index::labels::Indexed;
-use where_label::found::Found;
+use where_element::found::Found;
 
 // number 0: the text or the list is written, place is its length; or place is the number of an element. Else a refusal:
 // its number and its place.

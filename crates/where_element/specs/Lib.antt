@@ -2,3 +2,5 @@
 pub mod Place
 -- 01, "What lies where": a label's elements, numbered
 pub mod Element
+-- what a call over a label's elements answers
+pub mod Found

@@ -9,8 +9,8 @@ use Rattle.elements.proofs.LabelPosition as P
 use Rattle.elements.proofs.LabelPosition.Laws as P′
 use Rattle.where_element.proofs.place.Rectangle as R
 use Rattle.where_element.proofs.place.Rectangle.Laws as R′
-use Rattle.where_label.proofs.found.Found as F
-use Rattle.where_label.proofs.found.Found.Laws as F′
+use Rattle.where_element.proofs.found.Found as F
+use Rattle.where_element.proofs.found.Found.Laws as F′
 
 abbrev pub numbers-mut : (ℓ : Lifetime) (κ : Lft) → Known (MutSlice ℓ κ usize)
 numbers-mut ℓ κ = record { vals = slice-vals; tells = mut-slice-tells ℓ κ usize; lawful = λ 𝓤 H A W. mut-slice-lawful 𝓤 H A W ℓ κ usize }

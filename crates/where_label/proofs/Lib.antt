@@ -1,7 +1,5 @@
 -- the elements of a walk at one step, and what is counted, written and compared there
 pub mod FindLaws
--- the nearest so far
-pub mod NearestLaws
 -- what is passed, as data
 pub mod Data
 -- the label of one entry, taken out of its list

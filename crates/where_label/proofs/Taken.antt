@@ -39,7 +39,7 @@ use Rattle.lent_lists.proofs.Elem.{row-of, vals, elem, bytes, lent, number, mad
 use Rattle.lent_lists.proofs.Steps.{frees, Token, apart, apart3, together, together3, beside}
 use Rattle.lent_lists.proofs.Walks.{Spec, walked, calls, calls-plain, calls-with, typed}
 use Rattle.where_element.specs.declared.place.Rectangle.{Rectangle}
-use Rattle.where_label.specs.Found.{givenFound}
+use Rattle.where_element.specs.Found.{givenFound}
 use Rattle.where_label.proofs.Data.{numbers-mut, rectangle, found}
 use Rattle.label_index.proofs.entry.no_entry as none-fn
 use Rattle.label_index.proofs.entry.no_entry.Symbol as none-fn-def

@@ -3,9 +3,7 @@
 use mathlib.Core.Bool.{cond}
 use mathlib.Core.List.{List}
 use Prim.Native.Nat.{ℕ}
-use Rattle.elements.specs.Given.{Given, bytes, Due, text, denied, longest, within}
-use Rattle.elements.specs.Given as given
-use Rattle.elements.specs.Refusals.{numberOf}
+use Rattle.elements.specs.Given.{Due, text, denied, longest, within}
 use Rattle.elements.specs.declared.LabelElement.{LabelElement}
 use Rattle.elements.specs.declared.LabelPosition.{LabelPosition}
 use Rattle.walk_theory.specs.Index.{Opening, opens, denies, opening}
@@ -15,8 +13,7 @@ use Rattle.label_index.specs.declared.entry.LabelEntry.{LabelEntry}
 use Rattle.where_element.specs.Place.{isTurned}
 use Rattle.where_element.specs.Element.{insideOf, touchingOf, nearestOf}
 use Rattle.where_element.specs.declared.place.Rectangle.{Rectangle}
-use Rattle.where_label.specs.declared.found.Found.{Found}
-use Rattle.where_label.specs.declared.found.Found.the-variants.{Number, Refused}
+use Rattle.where_element.specs.Found.{Spot, element, refused}
 
 -- an element as it is, for a frame
 abbrev pub itself : List ℕ → LabelElement → LabelElement
@@ -46,11 +43,6 @@ insideDue s es i r = checked s r (foundIn (insideOf r) (openingOf s es i))
 abbrev pub touchingDue : List ℕ → List LabelEntry → ℕ → Rectangle → Due
 touchingDue s es i r = checked s r (foundIn (touchingOf r) (openingOf s es i))
 
--- one element's number, or a refusal
-pub data Spot : Type 0 where
-  element : ℕ → Spot
-  refused : ℕ → ℕ → Spot
-
 abbrev pub nearestIn : LabelPosition → ElementOpening → Spot
 nearestIn q (opens l) = element (nearestOf q (l .frames))
 nearestIn q (denies k p) = refused k p
@@ -58,12 +50,3 @@ nearestIn q (denies k p) = refused k p
 -- what is due to `nearest`
 abbrev pub nearestDue : List ℕ → List LabelEntry → ℕ → LabelPosition → Spot
 nearestDue s es i q = nearestIn q (openingOf s es i)
-
--- what the code answers, a refusal by 01's number: how many numbers are in the list, or one number
-abbrev pub givenFound : Found → Given
-givenFound (Number n) = bytes n
-givenFound (Refused k p) = given.refused (numberOf k) p
-
-abbrev pub spotOf : Found → Spot
-spotOf (Number n) = element n
-spotOf (Refused k p) = refused (numberOf k) p

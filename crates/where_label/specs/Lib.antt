@@ -2,5 +2,3 @@
 pub mod Found
 -- inner: the elements of a walk, counted and numbered
 pub mod Find
--- inner: the nearest so far
-pub mod Nearest

@@ -1,4 +1,2 @@
 // What lies where on one label, opened by its entry: over the elements that its walk yields, none of which is stored.
 pub mod find;
-pub mod found;
-pub mod nearest;

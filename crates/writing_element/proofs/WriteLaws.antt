@@ -6,7 +6,7 @@ use Prim.Native.Nat.{ℕ, _+_, _-_, _<_, _≤_}
 use native.Mathlib.Omega.{arith}
 use lib.Dec.{leb, ltb}
 use lib.ListN.{length, length-take, length-drop}
-use borrow.Author.Tests.{ltb-false, lt-ltb, le-ltb, le-leb, lt-leb, leb-true, leb-false}
+use borrow.Author.Tests.{ltb-false, lt-ltb, le-ltb}
 use Rattle.text.proofs.BoolLaws.{test}
 use Rattle.elements.specs.declared.LabelElement.{LabelElement}
 use Rattle.elements.specs.declared.LabelElement.the-variants as element
@@ -21,11 +21,11 @@ use Rattle.spellings.specs.Draws.{isLine}
 use Rattle.spellings.specs.Due.{elementDue}
 use Rattle.spellings.specs.Spelled.{bytesIn, spell}
 use Rattle.spellings.specs.Writable.{writable}
-use Rattle.writing_element.specs.Fill.{fill}
-use Rattle.writing_element.specs.Template.{template, whichOf}
+use Rattle.writing_templates.specs.Fill.{fill}
+use Rattle.writing_templates.specs.Template.{template, whichOf}
 use Rattle.writing_element.specs.Write.{whichAt, canWrite, spanAt, flatDue}
-use Rattle.writing_element.proofs.SpellLaws.{command-is}
-use Rattle.writing_element.proofs.FineLaws.{low-is, writable-is}
+use Rattle.writing_templates.proofs.SpellLaws.{command-is}
+use Rattle.writing_limits.proofs.FineLaws.{low-is, writable-is}
 
 bytes-are : (s : List ℕ) (e : LabelElement) → part s (spanAt (flatElement e)) ≡ bytesIn s (plainOf e .«data»)
 bytes-are s (element.Text e) = refl
@@ -109,9 +109,3 @@ fills-put l {m} {t} {r} n e h p =
 
 pub part-short : (s : List ℕ) (d : DataSpan) → length (part s d) ≤ length s
 part-short s d = simp (length-take, length-drop) (omega arith)
-
-pub holds-is : (len start n : ℕ) → start ≤ len → leb n (len - start) ≡ leb (start + n) len
-holds-is len start n h =
-    test (leb n (len - start))
-    (λ e. e ∙ sym (le-leb (start + n) len (omega (arith, leb-true n (len - start) e))))
-    (λ e. e ∙ sym (lt-leb (start + n) len (omega (arith, leb-false n (len - start) e))))

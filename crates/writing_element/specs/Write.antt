@@ -10,9 +10,9 @@ use Rattle.elements.specs.declared.DataSpan.{DataSpan}
 use Rattle.elements.specs.Given.{Due, text, denied, within, longest}
 use Rattle.frame_bytes.specs.Frame.{part}
 use Rattle.structs.specs.declared.answer.Element.{Element}
-use Rattle.writing_element.specs.Fill.{fill}
-use Rattle.writing_element.specs.Fine.{isNumber, isLineAt, fineNumbers, fineBytes}
-use Rattle.writing_element.specs.Template.{template}
+use Rattle.writing_templates.specs.Fill.{fill}
+use Rattle.writing_limits.specs.Fine.{isNumber, isLineAt, fineNumbers, fineBytes}
+use Rattle.writing_templates.specs.Template.{template}
 
 abbrev pub whichBox : Element → ℕ
 whichBox e = cond (isLineAt e) 17 2

@@ -2,14 +2,11 @@
 ghost use mathlib.Core.Path.{_≡_};
 ghost use Prim.Native.Nat.{_≤_};
 ghost use lib.ListN.{length};
-ghost use Rattle.writing_element.specs.Fill.{fill};
+ghost use Rattle.writing_templates.specs.Fill.{fill};
 ghost use Rattle.writing_element.specs.Plain.{plainDue};
 ghost use Rattle.writing_element.specs.Place.{roomAt, textOf, Puts};
-ghost use Rattle.writing_element.specs.Template.{template};
+ghost use Rattle.writing_templates.specs.Template.{template};
 ghost use Rattle.writing_element.specs.Write.{whichAt, flatDue};
-use crate::fine::holds;
-use crate::template::command_len;
-use crate::template::put_command;
 use crate::write::bytes_of;
 use crate::write::can_write;
 use crate::write::which_of;
@@ -18,6 +15,9 @@ use structs::answer::Element;
 use structs::element::flat_element;
 use structs_read::element::element_of;
 use structs_read::element::is_element;
+use writing_limits::fine::holds;
+use writing_templates::template::command_len;
+use writing_templates::template::put_command;
 
 // n bytes are to be stored, and end within len from at on.
 pub fn is_room(writing: bool, at: usize, n: usize, len: usize) -> bool

@@ -5,15 +5,9 @@ ghost use lib.ListN.{length};
 ghost use Rattle.elements.specs.Given.{Fills, givenOf, text};
 ghost use Rattle.spellings.specs.Due.{elementDue};
 ghost use Rattle.frame_bytes.specs.Frame.{part};
-ghost use Rattle.writing_element.specs.Fill.{fill};
-ghost use Rattle.writing_element.specs.Template.{template};
+ghost use Rattle.writing_templates.specs.Fill.{fill};
+ghost use Rattle.writing_templates.specs.Template.{template};
 ghost use Rattle.writing_element.specs.Write.{whichBox, whichDiagonal, whichPdf, whichAt, canWrite, spanAt, flatDue};
-use crate::fine::fine_bytes;
-use crate::fine::fine_numbers;
-use crate::fine::is_line;
-use crate::fine::is_number;
-use crate::template::command_len;
-use crate::template::put_command;
 use elements::DataSpan;
 use elements::LabelElement;
 use elements::filled::Filled;
@@ -22,6 +16,12 @@ use elements::refusal::Refusal;
 use frame_bytes::data::part;
 use structs::answer::Element;
 use structs::element::flat_element;
+use writing_limits::fine::fine_bytes;
+use writing_limits::fine::fine_numbers;
+use writing_limits::fine::is_line;
+use writing_limits::fine::is_number;
+use writing_templates::template::command_len;
+use writing_templates::template::put_command;
 
 // The template of a box, of a diagonal, of PDF417.
 fn which_box(e: Element) -> u8

@@ -25,16 +25,17 @@ use Rattle.label_index.proofs.Elems.{entry}
 use Rattle.lent_lists.proofs.Elem.{row-of, elem, made-of, bytes, number, lent}
 use Rattle.lent_lists.proofs.Steps.{frees, beside}
 use Rattle.lent_lists.proofs.Walks.{walked, calls, calls-plain, typed}
-use Rattle.where_label.specs.Found.{givenFound, spotOf, nearestDue}
+use Rattle.where_element.specs.Found.{givenFound, spotOf}
+use Rattle.where_label.specs.Found.{nearestDue}
 use Rattle.where_label.proofs.Data.{point, found}
 use Rattle.structs.specs.Written.{givenFlat, spotFlat}
 use Rattle.laddertick_c.proofs.Data.{written, signed}
 use Rattle.laddertick_c.proofs.point as make
 use Rattle.laddertick_c.proofs.point.Symbol as make-def
 use Rattle.laddertick_c.proofs.point.Met as make-thm
-use Rattle.where_label.proofs.nearest.nearest as work
-use Rattle.where_label.proofs.nearest.nearest.Symbol as work-def
-use Rattle.where_label.proofs.nearest.nearest.Met as work-thm
+use Rattle.where_nearest.proofs.nearest.nearest as work
+use Rattle.where_nearest.proofs.nearest.nearest.Symbol as work-def
+use Rattle.where_nearest.proofs.nearest.nearest.Met as work-thm
 use Rattle.structs.proofs.written.of_found as flat
 use Rattle.structs.proofs.written.of_found.Symbol as flat-def
 use Rattle.structs.proofs.written.of_found.Met as flat-thm
@@ -65,7 +66,7 @@ laddertick-nearest-spec 𝓤 H 𝓜 𝓖 𝓡 =
     (owns-make 𝓤 H (𝓖 .A) (i32 ∷ i32 ∷ []) (Is i32, (Is i32, tt)) (smk, (smk, tt)) (across, (down, tt)) (sint-vals w32 across, (sint-vals w32 down, tt)) (are .1 .1 .1 .0, (are .1 .1 .1 .1 .0, tt))) (and-then ! (load ! (from ! (stop !)) (look ! 7 refl)) (and-then ! (load ! (from ! (stop !)) (look ! 5 refl)) (no-more !))) (λ v q q-is is₁.
     land ! (from ! (stop !)) (init ! 2 refl (typed 𝓤 H 𝓜 𝓖 (elem point) q v is₁ .0)) $
     move ! (18 ∷ []) $ use1 W (‵ _) (beside 𝓤 H (𝓖 .A) Entries (usize ∷ row-of point ∷ []) (mk, (made-of point 𝓤 H (𝓖 .A), tt)) (i, (q, tt)) (uint-vals w64 i, (v ∷ [], tt)) (are .1 .1 .0, (is₁, tt))) $ move ! (18 ∷ 0 ∷ []) $ fjoin ! $ move ! (17 ∷ []) $
-    calls ! fm work.ended (work.clauses 𝓤 H (𝓖 .A) (𝓜 .mem) (𝓡 .run)) (cited 𝓤 H _ 𝓜 𝓡 code.env work-def.name work-def.routine code.calls-where-label·nearest·nearest (work-thm.met 𝓤 H 𝓜 𝓖 𝓡))
+    calls ! fm work.ended (work.clauses 𝓤 H (𝓖 .A) (𝓜 .mem) (𝓡 .run)) (cited 𝓤 H _ 𝓜 𝓡 code.env work-def.name work-def.routine code.calls-where-nearest·nearest·nearest (work-thm.met 𝓤 H 𝓜 𝓖 𝓡))
     ((κs, qs, tt, (s, (x, (i, (q, tt)))), (slice-vals s, (slice-vals x, (uint-vals w64 i, (v ∷ [], tt))))), tt) (id⊢ 𝓤 _)
     (λ r e. spotOf r ≡ nearestDue (now s) (now x) i q) (λ r e. id⊢ 𝓤 _)
     (and-then ! (load ! (from ! (stop !)) (look ! 13 refl)) (and-then ! (load ! (from ! (stop !)) (look ! 11 refl)) (and-then ! (load ! (from ! (stop !)) (look ! 9 refl)) (and-then ! (load ! (from ! (stop !)) (look ! 3 refl)) (no-more !))))) (λ u d ws done is.

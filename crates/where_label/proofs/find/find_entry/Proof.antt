@@ -14,7 +14,8 @@ use Rattle.label_opening.specs.declared.start.Start.{Start}
 use Rattle.label_opening.specs.declared.start.Start.the-variants.{At, Denied}
 use Rattle.label_opening.proofs.FirstLaws.{start-at}
 use Rattle.where_element.specs.Place.{isTurned}
-use Rattle.where_label.specs.Found.{itself, foundIn, givenFound}
+use Rattle.where_element.specs.Found.{givenFound}
+use Rattle.where_label.specs.Found.{itself, foundIn}
 use Rattle.where_label.specs.Find.{foundOf, startedDue}
 use borrow.Author.Needs.{needs}
 use Rattle.where_label.proofs.find.find_entry.Statement.{statement}

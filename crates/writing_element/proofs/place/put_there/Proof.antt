@@ -6,8 +6,8 @@ use native.Mathlib.Omega.{arith}
 use lib.ListN.{length}
 use denote.Ref.{now}
 use Rattle.decimals.proofs.PutLaws.{put-as}
-use Rattle.writing_element.specs.Fill.{fill}
-use Rattle.writing_element.specs.Template.{template}
+use Rattle.writing_templates.specs.Fill.{fill}
+use Rattle.writing_templates.specs.Template.{template}
 use Rattle.writing_element.specs.Write.{whichAt}
 use Rattle.writing_element.proofs.PlaceLaws.{room-ends, placed-in, placed-out}
 use borrow.Author.Needs.{needs}

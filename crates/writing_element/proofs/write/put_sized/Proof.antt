@@ -5,8 +5,8 @@ use native.Mathlib.Omega.{arith}
 use lib.ListN.{length}
 use denote.Ref.{now}
 use Rattle.decimals.proofs.PutLaws.{put-as}
-use Rattle.writing_element.specs.Fill.{fill}
-use Rattle.writing_element.specs.Template.{template}
+use Rattle.writing_templates.specs.Fill.{fill}
+use Rattle.writing_templates.specs.Template.{template}
 use Rattle.writing_element.proofs.WriteLaws.{fills-short, fills-put}
 use borrow.Author.Needs.{needs}
 use Rattle.writing_element.proofs.write.put_sized.Statement.{statement}

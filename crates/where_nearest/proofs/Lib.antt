@@ -1,0 +1,2 @@
+-- the nearest so far
+pub mod NearestLaws

@@ -1,0 +1,2 @@
+-- inner: the nearest so far
+pub mod Nearest

@@ -1,0 +1,24 @@
+-- `writing_limits::fine::is_sloped` meets its contract. Assumes nothing.
+use mathlib.Core.Path.{sym, _∙_}
+use borrow.Author.Tests.{eq-eqb, ne-eqb}
+use borrow.Author.Needs.{needs}
+use Rattle.writing_limits.proofs.fine.is_sloped.Statement.{statement}
+use Rattle.writing_limits.proofs.fine.is_sloped.Tie as tie
+
+returns : tie.Need-returns
+returns c =
+    let a = c .before .before .before .before .before in
+    simp (eq-eqb (a .args .e .direction) 1 (c .before .if1 .taken), sym (c .before .before .before .before .in-range .ensures) ∙ c .if2 .taken) (c .before .before .before .in-range2 .ensures)
+
+returns-2 : tie.Need-returns-2
+returns-2 c =
+    let a = c .before .before .before .before .before in
+    rw (c .before .before .before .in-range2 .ensures) (simp (eq-eqb (a .args .e .direction) 1 (c .before .if1 .taken), sym (c .before .before .before .before .in-range .ensures) ∙ c .if2 .left))
+
+returns-3 : tie.Need-returns-3
+returns-3 c =
+    let a = c .before .before .before .before in
+    rw (c .before .before .before .in-range .ensures, c .before .before .in-range2 .ensures) (simp (ne-eqb (a .args .e .direction) 1 (c .if1 .left)))
+
+pub is-sloped-spec : {M : Type 1} → statement M
+is-sloped-spec = tie.close (tie.spec (λ c κs. search needs) (λ c κs. search needs) returns returns-2 returns-3)

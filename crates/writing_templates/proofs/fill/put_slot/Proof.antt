@@ -1,0 +1,80 @@
+-- `writing_templates::fill::put_slot` meets its contract. Assumes nothing.
+use mathlib.Core.Path.{sym, ap, _∙_}
+use Prim.Native.Nat.{ℕ}
+use lib.IntN.{ℤ}
+use lib.ListN.{length}
+use denote.Ref.{now}
+use Rattle.numbers.proofs.IntLaws.{back32}
+use Rattle.decimals.specs.Decimal.{decimal}
+use Rattle.decimals.proofs.PutLaws.{put-as}
+use Rattle.writing_templates.specs.Fill.{letterOf}
+use Rattle.writing_templates.proofs.FillLaws.{slot-byte, slot-number, slot-letter, slot-data}
+use native.Mathlib.Omega.{arith}
+use borrow.Author.Needs.{needs}
+use Rattle.writing_templates.proofs.fill.put_slot.Statement.{statement}
+use Rattle.writing_templates.proofs.fill.put_slot.Tie as tie
+
+put-one-requires : tie.Need-put-one-requires
+put-one-requires c κs =
+    let a = c .before .before .before .before in
+    omega (arith, a .pre, ap length (slot-byte (a .args .e) (now (a .args .bytes)) (a .args .b) (c .before .if1 .taken)))
+
+returns : tie.Need-returns
+returns c =
+    let a = c .before .before .before .before .before .before .before in
+    put-as (slot-byte (a .args .e) (now (a .args .bytes)) (a .args .b) (c .before .before .before .before .if1 .taken)) (c .before .before .put-one .ensures)
+
+put-decimal-requires : tie.Need-put-decimal-requires
+put-decimal-requires c κs =
+    let a = c .before .before .before .before .before .before in
+    let z = c .number-at .result in
+    let e = back32 z (c .number-at .ok) ∙ c .number-at .ensures in
+    omega (arith, a .pre, ap length (slot-number (a .args .e) (now (a .args .bytes)) (a .args .b) (c .before .before .before .if1 .left) (c .before .before .if2 .taken)), ap (λ (z : ℤ). length (decimal z)) e)
+
+returns-2 : tie.Need-returns-2
+returns-2 c =
+    let a = c .before .before .before .before .before .before .before .before .before in
+    let f = c .before .before .before in
+    let z = f .number-at .result in
+    let e = back32 z (f .number-at .ok) ∙ f .number-at .ensures in
+    put-as (slot-number (a .args .e) (now (a .args .bytes)) (a .args .b) (f .before .before .before .if1 .left) (f .before .before .if2 .taken) ∙ ap decimal (sym e)) (c .before .before .put-decimal .ensures)
+
+put-letter-requires : tie.Need-put-letter-requires
+put-letter-requires c κs =
+    let a = c .before .before .before .before .before .before .before in
+    omega (arith, a .pre, ap length (slot-letter (a .args .e) (now (a .args .bytes)) (a .args .b) (c .before .before .before .if2 .left) (c .before .before .if3 .taken)), ap (λ (b : ℕ). length (letterOf b)) (c .letter-at .ensures))
+
+returns-3 : tie.Need-returns-3
+returns-3 c =
+    let a = c .before .before .before .before .before .before .before .before .before .before in
+    let f = c .before .before .before in
+    put-as (slot-letter (a .args .e) (now (a .args .bytes)) (a .args .b) (f .before .before .before .if2 .left) (f .before .before .if3 .taken) ∙ ap letterOf (sym (f .letter-at .ensures))) (c .before .before .put-letter .ensures)
+
+put-data-requires : tie.Need-put-data-requires
+put-data-requires c κs =
+    let a = c .before .before .before .before .before .before in
+    omega (arith, a .pre, ap length (slot-data (a .args .e) (now (a .args .bytes)) (a .args .b) (c .before .if3 .left)))
+
+returns-4 : tie.Need-returns-4
+returns-4 c =
+    let a = c .before .before .before .before .before .before .before .before .before in
+    put-as (slot-data (a .args .e) (now (a .args .bytes)) (a .args .b) (c .before .before .before .before .if3 .left)) (c .before .before .put-data .ensures)
+
+pub put-slot-spec : {M : Type 1} → statement M
+put-slot-spec =
+    tie.close
+    (tie.spec
+    put-one-requires
+    (λ c. search needs)
+    returns
+    (λ c κs. search needs)
+    put-decimal-requires
+    (λ c. search needs)
+    returns-2
+    (λ c κs. search needs)
+    put-letter-requires
+    (λ c. search needs)
+    returns-3
+    put-data-requires
+    (λ c. search needs)
+    returns-4)
