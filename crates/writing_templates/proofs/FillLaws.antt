@@ -40,7 +40,7 @@ put-byte l at x e = put-as e (record { wrote = wrote refl; next = refl })
 -- the four kinds of bytes
 
 module _ (e : Element) (d : List ℕ) (b : ℕ) where
-  pub slot-byte : b < 128 → slot e d b ≡ b ∷ []
+  pub slot-byte : b < 128 → slot e d b ≡ letterOf b
   slot-byte h = simp (lt-ltb b 128 h)
 
   pub slot-number : 128 ≤ b → b < 148 → slot e d b ≡ decimal (numberAt e (b - 128))
@@ -53,8 +53,8 @@ module _ (e : Element) (d : List ℕ) (b : ℕ) where
   slot-data l = simp (le-ltb b 128 (omega arith), le-ltb b 148 (omega arith), le-ltb b 160 l)
 
 module _ (e : Element) (len b : ℕ) where
-  pub len-byte : b < 128 → SlotLen e len b 1
-  len-byte h = record { is = λ d k₀. ap length (sym (slot-byte e d b h)); small = omega arith }
+  pub len-byte : (r : ℕ) → b < 128 → r ≡ length (letterOf b) → SlotLen e len b r
+  len-byte r h k = record { is = λ d k₀. k ∙ ap length (sym (slot-byte e d b h)); small = omega (arith, letter-le b) }
 
   pub len-number : (r : ℕ) → 128 ≤ b → b < 148 → DecimalLen (numberAt e (b - 128)) r → SlotLen e len b r
   len-number r l h k = record { is = λ d k₀. k .is ∙ ap length (sym (slot-number e d b l h)); small = omega (arith, k .small) }

@@ -141,7 +141,7 @@ fn letter_at(e: Element, i: u8) -> u8
     }
 }
 
-// How many bytes a letter is: 0 is none.
+// How many bytes a letter, or a byte of a template, is: 0 is none.
 fn letter_len(b: u8) -> usize
     ensures { λ r. ⌜ r ≡ length (letterOf b) ⌝ }
 {
@@ -167,20 +167,12 @@ fn put_data(out: &mut [u8], at: usize, bytes: &[u8]) -> usize
     at + bytes.len()
 }
 
-fn put_one(out: &mut [u8], at: usize, b: u8) -> usize
-    requires { ⌜ at + 1 ≤ length (now out) ⌝ }
-    ensures { λ r. ⌜ Put (now (out .exit)) (now (out .entry)) at (b ∷ []) r ⌝ }
-{
-    out[at] = b;
-    at + 1
-}
-
 // How many bytes stand where b stands in a template, len being those of the data.
 fn slot_len(b: u8, e: Element, len: usize) -> usize
     ensures { λ r. ⌜ SlotLen e len b r ⌝ }
 {
     if b < 128 {
-        return 1;
+        return letter_len(b);
     }
     if b < 148 {
         return decimal_len(number_at(e, b - 128));
@@ -196,7 +188,7 @@ fn put_slot(out: &mut [u8], at: usize, b: u8, e: Element, bytes: &[u8]) -> usize
     ensures { λ r. ⌜ Put (now (out .exit)) (now (out .entry)) at (slot e (now (bytes .entry)) b) r ⌝ }
 {
     if b < 128 {
-        return put_one(out, at, b);
+        return put_letter(out, at, b);
     }
     if b < 148 {
         return put_decimal(out, at, number_at(e, b - 128));

@@ -14,15 +14,15 @@ use borrow.Author.Needs.{needs}
 use Rattle.writing_templates.proofs.fill.put_slot.Statement.{statement}
 use Rattle.writing_templates.proofs.fill.put_slot.Tie as tie
 
-put-one-requires : tie.Need-put-one-requires
-put-one-requires c κs =
+put-letter-requires : tie.Need-put-letter-requires
+put-letter-requires c κs =
     let a = c .before .before .before .before in
     omega (arith, a .pre, ap length (slot-byte (a .args .e) (now (a .args .bytes)) (a .args .b) (c .before .if1 .taken)))
 
 returns : tie.Need-returns
 returns c =
     let a = c .before .before .before .before .before .before .before in
-    put-as (slot-byte (a .args .e) (now (a .args .bytes)) (a .args .b) (c .before .before .before .before .if1 .taken)) (c .before .before .put-one .ensures)
+    put-as (slot-byte (a .args .e) (now (a .args .bytes)) (a .args .b) (c .before .before .before .before .if1 .taken)) (c .before .before .put-letter .ensures)
 
 put-decimal-requires : tie.Need-put-decimal-requires
 put-decimal-requires c κs =
@@ -39,8 +39,8 @@ returns-2 c =
     let e = back32 z (f .number-at .ok) ∙ f .number-at .ensures in
     put-as (slot-number (a .args .e) (now (a .args .bytes)) (a .args .b) (f .before .before .before .if1 .left) (f .before .before .if2 .taken) ∙ ap decimal (sym e)) (c .before .before .put-decimal .ensures)
 
-put-letter-requires : tie.Need-put-letter-requires
-put-letter-requires c κs =
+put-letter-requires-2 : tie.Need-put-letter-requires-2
+put-letter-requires-2 c κs =
     let a = c .before .before .before .before .before .before .before in
     omega (arith, a .pre, ap length (slot-letter (a .args .e) (now (a .args .bytes)) (a .args .b) (c .before .before .before .if2 .left) (c .before .before .if3 .taken)), ap (λ (b : ℕ). length (letterOf b)) (c .letter-at .ensures))
 
@@ -48,7 +48,7 @@ returns-3 : tie.Need-returns-3
 returns-3 c =
     let a = c .before .before .before .before .before .before .before .before .before .before in
     let f = c .before .before .before in
-    put-as (slot-letter (a .args .e) (now (a .args .bytes)) (a .args .b) (f .before .before .before .if2 .left) (f .before .before .if3 .taken) ∙ ap letterOf (sym (f .letter-at .ensures))) (c .before .before .put-letter .ensures)
+    put-as (slot-letter (a .args .e) (now (a .args .bytes)) (a .args .b) (f .before .before .before .if2 .left) (f .before .before .if3 .taken) ∙ ap letterOf (sym (f .letter-at .ensures))) (c .before .before .put-letter2 .ensures)
 
 put-data-requires : tie.Need-put-data-requires
 put-data-requires c κs =
@@ -64,7 +64,7 @@ pub put-slot-spec : {M : Type 1} → statement M
 put-slot-spec =
     tie.close
     (tie.spec
-    put-one-requires
+    put-letter-requires
     (λ c. search needs)
     returns
     (λ c κs. search needs)
@@ -72,7 +72,7 @@ put-slot-spec =
     (λ c. search needs)
     returns-2
     (λ c κs. search needs)
-    put-letter-requires
+    put-letter-requires-2
     (λ c. search needs)
     returns-3
     put-data-requires

@@ -12,7 +12,7 @@ use Rattle.writing_templates.proofs.fill.slot_len.Statement.{statement}
 use Rattle.writing_templates.proofs.fill.slot_len.Tie as tie
 
 returns : tie.Need-returns
-returns c = let a = c .before in len-byte (a .args .e) (a .args .len) (a .args .b) (c .if1 .taken)
+returns c = let a = c .before .before in len-byte (a .args .e) (a .args .len) (a .args .b) (c .letter-len .result) (c .before .if1 .taken) (c .letter-len .ensures)
 
 returns-2 : tie.Need-returns-2
 returns-2 c =
@@ -25,8 +25,8 @@ returns-2 c =
 returns-3 : tie.Need-returns-3
 returns-3 c =
     let a = c .before .before .before .before .before in
-    len-letter (a .args .e) (a .args .len) (a .args .b) (c .letter-len .result) (c .before .before .before .if2 .left) (c .before .before .if3 .taken)
-    (c .letter-len .ensures ∙ ap (λ (b : ℕ). length (letterOf b)) (c .before .letter-at .ensures))
+    len-letter (a .args .e) (a .args .len) (a .args .b) (c .letter-len2 .result) (c .before .before .before .if2 .left) (c .before .before .if3 .taken)
+    (c .letter-len2 .ensures ∙ ap (λ (b : ℕ). length (letterOf b)) (c .before .letter-at .ensures))
 
 returns-4 : tie.Need-returns-4
 returns-4 c = let a = c .before .before .before in len-data (a .args .e) (a .args .len) (a .args .b) (c .if3 .left)
@@ -35,6 +35,7 @@ pub slot-len-spec : {M : Type 1} → statement M
 slot-len-spec =
     tie.close
     (tie.spec
+    (λ c κs. search needs)
     returns
     (λ c κs. search needs)
     (λ c κs. search needs)
