@@ -1,49 +1,8 @@
-// Bytes into a lent buffer. Long ones go in runs of 64, 16 or 4 bytes, which the compiler makes wide moves of.
+// Bytes into a lent buffer. Long ones go in runs of 16 or 4 bytes, which the compiler makes wide moves of.
 ghost use mathlib.Core.Path.{_≡_};
 ghost use Prim.Native.Nat.{_+_, _<_, _≤_};
 ghost use lib.ListN.{length, take, drop};
 ghost use Rattle.text.specs.Wrote.{Wrote};
-
-// 64 bytes from `from` on.
-fn load_64(src: &[u8], from: usize) -> [u8; 64]
-    requires { ⌜ from + 64 ≤ length (now src) ⌝ }
-    ensures { λ r. ⌜ r ≡ take 64 (drop from (now (src .entry))) ⌝ }
-{
-    let mut t: [u8; 64] = [0; 64];
-    let mut i = 0;
-    while i < 64 {
-        t[i] = src[from + i];
-        i += 1;
-    }
-    t
-}
-
-// Stores t in out, from at on.
-fn store_64(t: [u8; 64], out: &mut [u8], at: usize)
-    requires { ⌜ at + 64 ≤ length (now out) ⌝ }
-    ensures { λ _. ⌜ Wrote (now (out .exit)) (now (out .entry)) at t ⌝ }
-{
-    let mut i = 0;
-    while i < 64 {
-        out[at + i] = t[i];
-        i += 1;
-    }
-}
-
-// Stores src, 64 bytes or more, by runs of 64. The last run ends where src ends, so it may overlap the one before.
-fn by_64(src: &[u8], out: &mut [u8], at: usize)
-    requires { ⌜ (64 ≤ length (now src)) × (at + length (now src) ≤ length (now out)) ⌝ }
-    ensures { λ _. ⌜ Wrote (now (out .exit)) (now (out .entry)) at (now (src .entry)) ⌝ }
-{
-    let e = src.len() - 64;
-    store_64(load_64(src, 0), out, at);
-    let mut i = 64;
-    while i < e {
-        store_64(load_64(src, i), out, at + i);
-        i += 64;
-    }
-    store_64(load_64(src, e), out, at + e);
-}
 
 // 16 bytes from `from` on.
 fn load_16(src: &[u8], from: usize) -> [u8; 16]
@@ -152,9 +111,7 @@ pub fn put_bytes(src: &[u8], out: &mut [u8], at: usize)
         put_few(src, out, at);
     } else if n < 16 {
         by_4(src, out, at);
-    } else if n < 64 {
-        by_16(src, out, at);
     } else {
-        by_64(src, out, at);
+        by_16(src, out, at);
     }
 }

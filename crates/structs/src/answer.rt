@@ -149,6 +149,7 @@ fn nothing() -> Element
 pub(crate) fn event(kind: u8, number: u8, place: usize, next: WalkState) -> FlatAnswer
     ensures { λ r. ⌜ r ≡ event kind number place next ⌝ }
 {
+    let reference = next.reference;
     let element = nothing();
     FlatAnswer {
         kind,
@@ -157,7 +158,11 @@ pub(crate) fn event(kind: u8, number: u8, place: usize, next: WalkState) -> Flat
         count: 0,
         sets: 0,
         copies: 0,
-        next,
+        next: WalkState {
+            reference,
+            pending: next.pending,
+            place: next.place,
+        },
         element,
     }
 }
@@ -166,6 +171,7 @@ pub(crate) fn event(kind: u8, number: u8, place: usize, next: WalkState) -> Flat
 pub(crate) fn printed(count: usize, counts: PrintCounts, next: WalkState) -> FlatAnswer
     ensures { λ r. ⌜ r ≡ printed count counts next ⌝ }
 {
+    let reference = next.reference;
     let element = nothing();
     FlatAnswer {
         kind: 0,
@@ -174,7 +180,11 @@ pub(crate) fn printed(count: usize, counts: PrintCounts, next: WalkState) -> Fla
         count,
         sets: counts.sets,
         copies: counts.copies,
-        next,
+        next: WalkState {
+            reference,
+            pending: next.pending,
+            place: next.place,
+        },
         element,
     }
 }
@@ -183,6 +193,7 @@ pub(crate) fn printed(count: usize, counts: PrintCounts, next: WalkState) -> Fla
 pub(crate) fn answered(element: Element, next: WalkState) -> FlatAnswer
     ensures { λ r. ⌜ r ≡ answered element next ⌝ }
 {
+    let reference = next.reference;
     FlatAnswer {
         kind: element.kind,
         number: 0,
@@ -190,7 +201,11 @@ pub(crate) fn answered(element: Element, next: WalkState) -> FlatAnswer
         count: 0,
         sets: 0,
         copies: 0,
-        next,
+        next: WalkState {
+            reference,
+            pending: next.pending,
+            place: next.place,
+        },
         element,
     }
 }

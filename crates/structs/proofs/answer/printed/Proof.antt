@@ -7,7 +7,7 @@ use Rattle.structs.proofs.answer.printed.Tie as tie
 returns : tie.Need-returns
 returns c =
     let n = c .before in
-    let q = n .before .args .counts in
+    let q = n .before .before .args .counts in
     rw (n .nothing .ensures, back32 (q .sets) (c .struct-told .given .0 .1), back32 (q .copies) (c .struct-told .given .1 .0 .1))
 
 pub printed-spec : {M : Type 1} → statement M
