@@ -18,10 +18,34 @@ pub fn walk(input: &[u8]) -> usize {
     }
 }
 
+/// How much was written; no call of the benchmark is refused but for the last line of a file that is refused there.
+pub fn written(said: raw::Written) -> usize {
+    assert_eq!(said.number, 0);
+    said.place
+}
+
+/// The same of a call that reads the file as the walk does.
+fn read(input: &[u8], said: raw::Written) -> usize {
+    assert!(said.number == 0 || said.place + 8 > input.len());
+    said.place
+}
+
+/// The room for an answer as a list, whose fields may hold any bytes.
+pub fn room_for<T: Copy>(out: &mut [u8]) -> &mut [T] {
+    unsafe { out.align_to_mut().1 }
+}
+
 pub fn normalise(input: &[u8], out: &mut [u8]) -> usize {
-    let written = raw::normalise(input, out);
-    assert_eq!(written.number, 0);
-    written.place
+    written(raw::normalise(input, out))
+}
+
+pub fn list(input: &[u8], out: &mut [u8]) -> usize {
+    read(input, raw::list(input, out))
+}
+
+/// Blocks without numbers are refused by the profile at once.
+pub fn strict_list(input: &[u8], out: &mut [u8]) -> usize {
+    raw::strict_list(input, out).place
 }
 
 /// The well-site profile's verdict, a number and a place.
@@ -32,17 +56,18 @@ pub fn check(input: &[u8]) -> usize {
 
 /// The label index, its entries in the room for an answer. Gives how many there are.
 pub fn index(input: &[u8], out: &mut [u8]) -> usize {
-    // An entry has any numbers in its fields.
-    let entries = unsafe { out.align_to_mut::<raw::Entry>().1 };
-    let written = raw::index(input, entries);
-    assert!(written.number == 0 || written.place + 8 > input.len());
-    written.place
+    read(input, raw::index(input, room_for(out)))
 }
 
-/// The entries of a file.
+/// Whether a file is accepted and has labels: 20 says that no entry is lent for them.
+pub fn has_labels(input: &[u8]) -> bool {
+    raw::index(input, &mut []).number == 20
+}
+
+/// The entries of a file, as a host gets them: the first call tells how many there are.
 pub fn entries(input: &[u8]) -> Vec<raw::Entry> {
     let mut entries = vec![raw::Entry::default(); raw::index(input, &mut []).place];
-    assert_eq!(raw::index(input, &mut entries).number, 0);
+    written(raw::index(input, &mut entries));
     entries
 }
 
@@ -69,11 +94,7 @@ pub fn write(input: &[u8], out: &mut [u8]) -> usize {
     loop {
         let answer = raw::step(input, walk);
         match answer.kind {
-            1..=16 => {
-                let written = raw::write(input, answer.element, &mut out[at..]);
-                assert_eq!(written.number, 0);
-                at += written.place;
-            }
+            1..=16 => at += written(raw::write(input, answer.element, &mut out[at..])),
             18 | 255 => return at,
             _ => {}
         }
@@ -81,31 +102,21 @@ pub fn write(input: &[u8], out: &mut [u8]) -> usize {
     }
 }
 
-/// A file written anew: its labels, each from its elements as they were walked. Gives how many bytes.
+/// A file written anew, as examples/c/rewrite.c does it: all labels are measured before the first is written. Gives how many bytes.
 pub fn rewrite(input: &[u8], out: &mut [u8]) -> usize {
-    let (mut walk, mut at, mut elements) = (raw::start(), 0, Vec::new());
-    loop {
-        let answer = raw::step(input, walk);
-        match answer.kind {
-            0 => {
-                let written = raw::write_label(input, &elements, answer.sets, answer.copies, &mut out[at..]);
-                assert_eq!(written.number, 0);
-                at += written.place;
-                elements.clear();
-            }
-            1..=16 => elements.push(answer.element),
-            17 => elements.clear(),
-            _ => return at,
-        }
-        walk = answer.next;
+    let entries = entries(input);
+    let needed = entries.iter().map(|&entry| anew(input, entry, &mut []).place).sum();
+    let mut at = 0;
+    for &entry in &entries {
+        at += written(anew(input, entry, &mut out[at..needed]));
     }
+    at
 }
 
-/// One label's lines.
-pub fn open(input: &[u8], entries: &[raw::Entry], number: usize, out: &mut [u8]) -> usize {
-    let written = raw::open(input, entries, number, out);
-    assert_eq!(written.number, 0);
-    written.place
+/// A label from its elements, as they are walked from its entry.
+fn anew(input: &[u8], entry: raw::Entry, out: &mut [u8]) -> raw::Written {
+    let (elements, sets, copies) = elements(input, entry);
+    raw::write_label(input, &elements, sets, copies, out)
 }
 
 /// A file joined with itself; one that is refused at its end is walked once, and no more.

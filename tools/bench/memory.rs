@@ -1,11 +1,9 @@
 //! Memory for inputs and answers: whole and in large pages, so that page tables have no part in what is measured.
 
 use std::alloc::{alloc, dealloc, Layout};
-use std::arch::x86_64::{_mm_clflush, _mm_mfence};
 use std::ops::{Deref, DerefMut};
 
 const PAGE: usize = 2 * 1024 * 1024;
-const LINE: usize = 64;
 const MADV_HUGEPAGE: i32 = 14;
 
 extern "C" {
@@ -37,14 +35,6 @@ impl Memory {
         let mut memory = Memory::new(bytes.len());
         memory.copy_from_slice(bytes);
         memory
-    }
-
-    /// Takes every byte out of the caches.
-    pub fn leave_caches(&self) {
-        for line in self.chunks(LINE) {
-            unsafe { _mm_clflush(line.as_ptr()) };
-        }
-        unsafe { _mm_mfence() };
     }
 }
 
