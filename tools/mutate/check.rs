@@ -28,9 +28,12 @@ pub const VERDICTS: [(Verdict, &str); 6] = [
     (Verdict::Broken, "rt failed"),
 ];
 
+/// What `timeout` exits with where it ended the check.
+pub const OUT_OF_TIME: i32 = 124;
+
 /// A folder with the crates and what `rt` keeps of their proofs.
 pub struct WorkingCopy {
-    root: PathBuf,
+    pub root: PathBuf,
 }
 
 impl WorkingCopy {
@@ -45,13 +48,23 @@ impl WorkingCopy {
         WorkingCopy { root: to.into() }
     }
 
-    /// `rt check` of crates as they stand: what it prints, and whether all are proved.
-    pub fn check(&self, crates: &[String], seconds: u64) -> (String, bool) {
+    pub fn is_program(&self, crate_name: &str) -> bool {
+        self.root.join("crates").join(crate_name).join("src/main.rt").exists()
+    }
+
+    /// The first digits of a proved crate's stamp: it changes with the crate's files and with what the crate depends on.
+    pub fn stamp(&self, crate_name: &str) -> String {
+        let stamp = fs::read_to_string(self.root.join("target/stamp").join(crate_name)).expect("a stamp");
+        stamp.chars().take(12).collect()
+    }
+
+    /// `rt check` of crates as they stand: what it prints, and its exit status, which is 0 where all are proved.
+    pub fn check(&self, crates: &[String], seconds: u64) -> (String, Option<i32>) {
         let mut command = Command::new("timeout");
         command.arg(seconds.to_string()).args(["rt", "check"]).args(crates).current_dir(&self.root).env("RT_JOBS", "1");
         let output = command.output().expect("the commands timeout and rt");
         let said = [output.stdout, output.stderr].concat();
-        (String::from_utf8_lossy(&said).into_owned(), output.status.success())
+        (String::from_utf8_lossy(&said).into_owned(), output.status.code())
     }
 
     /// `rt check` of a crate with another text in one of its files: the verdict, and what `rt` said. Then all is as it was, the file, the
@@ -76,8 +89,8 @@ impl WorkingCopy {
 
     /// `rt check` of a crate as it stands.
     pub fn verdict_as_it_stands(&self, crate_name: &str, seconds: u64) -> (Verdict, String) {
-        let (said, proved) = self.check(&[crate_name.into()], seconds);
-        (read(crate_name, &said, proved), said)
+        let (said, status) = self.check(&[crate_name.into()], seconds);
+        (read(crate_name, &said, status), said)
     }
 
     /// Another text for a file, whose path is from the copy's root on. It stays.
@@ -87,9 +100,9 @@ impl WorkingCopy {
 }
 
 /// `rt` says in words which of its exit statuses the prover had. No line `logic=` means that the code did not get as far.
-fn read(crate_name: &str, said: &str, proved: bool) -> Verdict {
+fn read(crate_name: &str, said: &str, status: Option<i32>) -> Verdict {
     let line = |start: &str| said.lines().any(|line| line.starts_with(start));
-    if proved {
+    if status == Some(0) {
         Verdict::Survived
     } else if line(&format!("rt: {crate_name} proved, and its run FAILED")) {
         Verdict::RunDiffers
@@ -99,7 +112,7 @@ fn read(crate_name: &str, said: &str, proved: bool) -> Verdict {
         } else {
             Verdict::NoProgram
         }
-    } else if line(&format!("rt: {crate_name} NOT PROVED (exit 3,")) || !line("rt: FAILED") {
+    } else if line(&format!("rt: {crate_name} NOT PROVED (exit 3,")) || status == Some(OUT_OF_TIME) {
         Verdict::Unclear
     } else {
         Verdict::Broken

@@ -1,6 +1,7 @@
 //! The mutation run. It makes small edits to the code of functions that have a contract, one at a time, as a slip of the hand would: another
 //! comparison, another constant, a condition dropped, two fields swapped, one too many. Each is made in a copy of the repository below
-//! target/mutate, where `rt check` proves its crate again; contracts, definitions and proofs stay as they are. The prover must refuse it.
+//! target/mutate; contracts, definitions and proofs stay as they are. The prover must refuse it, over the crate's incremental folder (`rt dev`), or
+//! else in a whole check of the crate (`rt check`).
 //!
 //! A survivor is an edit with which the crate is still proved. Either it changes nothing that can be seen (`a < b` and `a <= b` choose
 //! the same of two equal numbers), or the contract is too weak: a wrong program meets it too.
@@ -10,7 +11,7 @@
 //! that changes nothing may be refused too, since the proof was written for the other form.
 //!
 //! tokens, source: the code as tokens and functions. body, edits: the edits that a function allows. plan: which are tried. check: what
-//! `rt` says of one. run: the jobs. report: target/mutate/report.txt, and the table at the end. together: the other mode, `--together`, whose edits are
+//! `rt check` says of one. warm: what `rt dev` says. run: the jobs. report: target/mutate/report.txt, and the page at the end. together: the other mode, `--together`, whose edits are
 //! written by hand and change definitions along with the code.
 
 mod body;
@@ -22,6 +23,7 @@ mod run;
 mod source;
 mod together;
 mod tokens;
+mod warm;
 
 use check::{Verdict, WorkingCopy};
 use plan::{plan, Plan, Subject};
@@ -38,10 +40,12 @@ const OF_A_PROGRAM: u64 = 25;
 
 struct Options {
     crates: Vec<String>,
-    most: usize,
+    /// How many edits; nothing stands for one of every function.
+    most: Option<usize>,
     jobs: usize,
     seed: u64,
     resume: bool,
+    both: bool,
     plan: bool,
     /// The names of the edits that were asked for; none stands for all.
     together: Option<Vec<String>>,
@@ -51,7 +55,7 @@ fn main() {
     let root = std::env::current_dir().expect("a current folder");
     let listed = source::listed_crates(&root);
     let options = options(&listed).unwrap_or_else(|| {
-        eprintln!("usage: tools/mutate/run [--crates A,B] [--most N] [--jobs J] [--seed S] [--resume] [--plan]\n       tools/mutate/run --together [NAME..] [--jobs J]");
+        eprintln!("usage: tools/mutate/run [--crates A,B] [--most N | --each] [--jobs J] [--seed S] [--resume] [--both] [--plan]\n       tools/mutate/run --together [NAME..] [--jobs J]");
         exit(2)
     });
     let sources = Sources::read(&root, &listed);
@@ -64,9 +68,12 @@ fn main() {
         return print_plan(&sources, &plan);
     }
     let copies = copies(&root, &options.crates, options.jobs);
-    let report = Report::open(root.join("target/mutate"), options.resume);
-    let results = Run::new(&sources, &plan, &seconds, report).on(&copies);
-    let summary = report::summary(&plan.subjects, &results);
+    let stamps = options.crates.iter().map(|name| (name.clone(), copies[0].stamp(name))).collect();
+    let report = Report::open(root.join("target/mutate"), options.resume, stamps);
+    let results = Run::new(&sources, &plan, &seconds, &report, options.both).on(&copies);
+    let words = std::env::args().skip(1).filter(|word| word != "--resume");
+    let command: Vec<String> = ["tools/mutate/run".into()].into_iter().chain(words).collect();
+    let summary = report::summary(&command.join(" "), &listed, &plan.subjects, &results, &report);
     fs::write(root.join("target/mutate/summary.txt"), &summary).expect("the summary");
     print!("{summary}");
     let left = |verdict: &Verdict| ![Verdict::Refused, Verdict::RunDiffers, Verdict::NoProgram].contains(verdict);
@@ -89,15 +96,17 @@ fn together(root: &Path, names: &[String], seconds: &BTreeMap<String, u64>, opti
 }
 
 fn options(listed: &[String]) -> Option<Options> {
-    let mut options = Options { crates: listed.to_vec(), most: 180, jobs: 2, seed: 1, resume: false, plan: false, together: None };
+    let mut options = Options { crates: listed.to_vec(), most: Some(180), jobs: 2, seed: 1, resume: false, both: false, plan: false, together: None };
     let mut words = std::env::args().skip(1);
     while let Some(word) = words.next() {
         match word.as_str() {
             "--crates" => options.crates = words.next()?.split(',').map(String::from).collect(),
-            "--most" => options.most = words.next()?.parse().ok()?,
+            "--most" => options.most = Some(words.next()?.parse().ok()?),
+            "--each" => options.most = None,
             "--jobs" => options.jobs = words.next()?.parse().ok().filter(|&jobs| jobs > 0)?,
             "--seed" => options.seed = words.next()?.parse().ok()?,
             "--resume" => options.resume = true,
+            "--both" => options.both = true,
             "--plan" => options.plan = true,
             "--together" => options.together = Some(vec![]),
             name if !name.starts_with('-') => options.together.as_mut()?.push(name.into()),
@@ -132,8 +141,8 @@ fn copies(root: &Path, crates: &[String], jobs: usize) -> Vec<WorkingCopy> {
     }
     let folder = |job: usize| -> PathBuf { root.join(format!("target/mutate/{job}")) };
     let first = WorkingCopy::make(root, &folder(0));
-    let (said, proved) = first.check(crates, 7200);
-    if !proved {
+    let (said, status) = first.check(crates, 7200);
+    if status != Some(0) {
         eprintln!("{said}the crates are not proved as they stand");
         exit(2);
     }

@@ -21,13 +21,16 @@ pub struct Plan<'a> {
 }
 
 /// Every function gets an edit before any gets a second. Where that is too much, crates share by the square root of their seconds:
-/// one whose check takes four times as long has half as many of its functions edited.
-pub fn plan<'a>(sources: &'a Sources, crates: &[String], seconds: &BTreeMap<String, u64>, most: usize, seed: u64) -> Plan<'a> {
+/// one whose check takes four times as long has half as many of its functions edited. With no number, every function gets one.
+pub fn plan<'a>(sources: &'a Sources, crates: &[String], seconds: &BTreeMap<String, u64>, most: Option<usize>, seed: u64) -> Plan<'a> {
     let mut subjects = subjects(sources, crates, seed);
     let mut used = [0; KINDS.len()];
     let mut order = Vec::new();
-    while order.len() < most {
+    while most.is_none_or(|most| order.len() < most) {
         let Some(next) = next_subject(&subjects, seconds) else { break };
+        if most.is_none() && subjects[next].wanted > 0 {
+            break;
+        }
         subjects[next].want(&mut used);
         order.push(next);
     }

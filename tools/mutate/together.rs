@@ -110,7 +110,7 @@ impl Together {
 
 /// Tries edits, some at a time, each in a fresh copy of a proved one: the table, and whether all were refused.
 pub fn run(proved: &Path, folder: &Path, edits: &[Together], seconds: &BTreeMap<String, u64>, jobs: usize) -> (String, bool) {
-    let report = Report::open(folder.into(), false);
+    let report = Report::open(folder.into(), false, BTreeMap::new());
     let next = AtomicUsize::new(0);
     let outcomes = Mutex::new(vec![]);
     let work = |job: usize| loop {
@@ -120,7 +120,7 @@ pub fn run(proved: &Path, folder: &Path, edits: &[Together], seconds: &BTreeMap<
         let copy = WorkingCopy::make(proved, &folder.join(job.to_string()));
         let (verdict, said) = attempt(proved, &copy, edit, seconds);
         let refused_by = refused_by(&said);
-        report.add(&format!("{}: {refused_by}", edit.name), verdict, start.elapsed().as_secs(), &said);
+        report.add(&format!("{}: {refused_by}", edit.name), verdict, &format!("{} s", start.elapsed().as_secs()), &said);
         eprintln!("{}: {} {refused_by}", report::word(verdict), edit.name);
         outcomes.lock().unwrap().push(Outcome { edit: number, verdict, refused_by });
     };
