@@ -11,8 +11,8 @@
 //! that changes nothing may be refused too, since the proof was written for the other form.
 //!
 //! tokens, source: the code as tokens and functions. body, edits: the edits that a function allows. plan: which are tried. check: what
-//! `rt check` says of one. warm: what `rt dev` says. run: the jobs. report: target/mutate/report.txt, and the page at the end. together: the other mode, `--together`, whose edits are
-//! written by hand and change definitions along with the code.
+//! `rt check` says of one. warm: what `rt dev` says. run: the jobs. report: target/mutate/report.txt, and the page at the end. together: the modes `--together` and `--kept`, whose
+//! edits are written by hand: those of the first change definitions along with the code.
 
 mod body;
 mod check;
@@ -47,21 +47,21 @@ struct Options {
     resume: bool,
     both: bool,
     plan: bool,
-    /// The names of the edits that were asked for; none stands for all.
-    together: Option<Vec<String>>,
+    /// The folder of edits written by hand, and the names of those that were asked for; none stands for all.
+    by_hand: Option<(&'static str, Vec<String>)>,
 }
 
 fn main() {
     let root = std::env::current_dir().expect("a current folder");
     let listed = source::listed_crates(&root);
     let options = options(&listed).unwrap_or_else(|| {
-        eprintln!("usage: tools/mutate/run [--crates A,B] [--most N | --each] [--jobs J] [--seed S] [--resume] [--both] [--plan]\n       tools/mutate/run --together [NAME..] [--jobs J]");
+        eprintln!("usage: tools/mutate/run [--crates A,B] [--most N | --each] [--jobs J] [--seed S] [--resume] [--both] [--plan]\n       tools/mutate/run --together | --kept [NAME..] [--jobs J]");
         exit(2)
     });
     let sources = Sources::read(&root, &listed);
     let seconds = listed.iter().map(|name| (name.clone(), seconds_of(&root, name))).collect();
-    if let Some(names) = &options.together {
-        exit(together(&root, names, &seconds, &options));
+    if let Some((folder, names)) = &options.by_hand {
+        exit(by_hand(&root, folder, names, &seconds, options.jobs));
     }
     let plan = plan(&sources, &options.crates, &seconds, options.most, options.seed);
     if options.plan {
@@ -80,23 +80,23 @@ fn main() {
     exit(results.iter().any(|(_, _, verdict)| left(verdict)) as i32);
 }
 
-/// The edits of definitions together with code: the exit status.
-fn together(root: &Path, names: &[String], seconds: &BTreeMap<String, u64>, options: &Options) -> i32 {
-    let edits = together::read(root, names).unwrap_or_else(|faults| {
+/// The edits of a folder of tools/mutate: the exit status.
+fn by_hand(root: &Path, folder: &str, names: &[String], seconds: &BTreeMap<String, u64>, jobs: usize) -> i32 {
+    let edits = together::read(root, folder, names).unwrap_or_else(|faults| {
         eprintln!("{faults}\nNOTHING WAS TRIED: these edits do not fit the files");
         exit(2)
     });
-    copies(root, &options.crates, 1);
-    let folder = root.join("target/mutate/together");
+    copies(root, &source::listed_crates(root), 1);
+    let folder = root.join("target/mutate").join(folder);
     fs::create_dir_all(&folder).expect("a folder below target/mutate");
-    let (table, refused) = together::run(&root.join("target/mutate/0"), &folder, &edits, seconds, options.jobs);
+    let (table, refused) = together::run(&root.join("target/mutate/0"), &folder, &edits, seconds, jobs);
     fs::write(folder.join("summary.txt"), &table).expect("the summary");
     print!("{table}");
     !refused as i32
 }
 
 fn options(listed: &[String]) -> Option<Options> {
-    let mut options = Options { crates: listed.to_vec(), most: Some(180), jobs: 2, seed: 1, resume: false, both: false, plan: false, together: None };
+    let mut options = Options { crates: listed.to_vec(), most: Some(180), jobs: 2, seed: 1, resume: false, both: false, plan: false, by_hand: None };
     let mut words = std::env::args().skip(1);
     while let Some(word) = words.next() {
         match word.as_str() {
@@ -108,8 +108,9 @@ fn options(listed: &[String]) -> Option<Options> {
             "--resume" => options.resume = true,
             "--both" => options.both = true,
             "--plan" => options.plan = true,
-            "--together" => options.together = Some(vec![]),
-            name if !name.starts_with('-') => options.together.as_mut()?.push(name.into()),
+            "--together" => options.by_hand = Some(("together", vec![])),
+            "--kept" => options.by_hand = Some(("kept", vec![])),
+            name if !name.starts_with('-') => options.by_hand.as_mut()?.1.push(name.into()),
             _ => return None,
         }
     }

@@ -1,4 +1,4 @@
-//! Edits of definitions together with code. Each file of tools/mutate/together makes a wrong reader whose code still meets its definition: both are
+//! Edits that are written by hand. Those of tools/mutate/kept are wrong programs, as must-fail edits are. Each file of tools/mutate/together makes a wrong reader whose code still meets its definition: both are
 //! edited alike, and proofs where they follow the code. The edited crates and then all that depend on them are checked, lowest first, up to the
 //! static library. What refuses the edit should be a law in the paper's words or a computed case; the table says what did.
 
@@ -38,9 +38,9 @@ struct Outcome {
 }
 
 /// The named edits, or all, in the order of their names; or their faults, such as a text that is not in its file.
-pub fn read(root: &Path, names: &[String]) -> Result<Vec<Together>, String> {
-    let folder = root.join("tools/mutate/together");
-    let files = fs::read_dir(&folder).expect("tools/mutate/together").flatten().map(|entry| entry.file_name().into_string().unwrap_or_default());
+pub fn read(root: &Path, folder: &str, names: &[String]) -> Result<Vec<Together>, String> {
+    let folder = root.join("tools/mutate").join(folder);
+    let files = fs::read_dir(&folder).expect("a folder of tools/mutate").flatten().map(|entry| entry.file_name().into_string().unwrap_or_default());
     let mut all: Vec<String> = files.filter_map(|file| Some(file.strip_suffix(".edit")?.to_string())).collect();
     all.sort();
     let mut faults: Vec<String> = names.iter().filter(|name| !all.contains(name)).map(|name| format!("no edit has the name {name}")).collect();
