@@ -8,7 +8,7 @@ use dots::element::convert_element;
 use elements::LabelElement;
 use elements::walk_state::WalkState;
 use structs::answer::Element;
-use structs::element::flat_element;
+use structs::element::struct_of;
 use walk::answer::Answer;
 use walk::step::step;
 
@@ -33,7 +33,7 @@ fn outside(e: Element) -> u32
 fn number_for(e: LabelElement, graphic: bool) -> u32
     ensures { λ r. ⌜ r ≡ faultOf graphic e ⌝ }
 {
-    let f = flat_element(e);
+    let f = struct_of(e);
     if graphic {
         if f.kind == 4 {
             return 24;

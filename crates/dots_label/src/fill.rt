@@ -8,7 +8,7 @@ ghost use Rattle.dots_label.specs.Walked.{nextOf, WithinCursor};
 use dots::element::Element300;
 use dots::element::element_300;
 use elements::walk_state::WalkState;
-use structs::element::flat_element;
+use structs::element::struct_of;
 use walk::answer::Answer;
 use walk::step::step;
 
@@ -35,7 +35,7 @@ pub(crate) fn next(input: &[u8], c: Cursor) -> Cursor
     };
     match step(&input[..last], st) {
         Answer::Element(state, e) => {
-            let element = element_300(flat_element(e));
+            let element = element_300(struct_of(e));
             Cursor {
                 element,
                 state,

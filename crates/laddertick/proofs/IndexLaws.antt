@@ -2,7 +2,6 @@
 -- (`index-keeps`, `open-keeps`, `long-index`, `long-open`), what `index` gives and each of its entries opens (`indexing`,
 -- `unfilled-by`), and what opening any entry does, by the steps (`opening`). Assumes nothing.
 use mathlib.Core.Path.{_≡_, refl, sym, ap, subst, _∙_}
-use mathlib.Core.Bool.{true, false}
 use mathlib.Core.List.{List, [], _∷_, _++_}
 use mathlib.Core.Logic.{_⊎_, inl, inr}
 use mathlib.Core.Option.{some}
@@ -10,17 +9,14 @@ use Prim.Native.Nat.{ℕ, zero, suc, _+_, _≤_, _<_}
 use native.Mathlib.Omega.{arith}
 use lib.Dec.{ltb}
 use lib.ListN.{length, take, drop, getElem?, getD}
-use lib.Seq.{sets, sets-eq}
+use lib.Seq.{sets-eq}
 use borrow.Author.Tests.{ltb-true, ltb-false, lt-ltb, le-ltb}
 use Rattle.text.proofs.BoolLaws.{test}
-use Rattle.elements.specs.declared.filled.Filled.{Filled}
 use Rattle.elements.specs.declared.filled.Filled.the-variants as filled-as
-use Rattle.elements.specs.declared.LabelPosition.{LabelPosition}
 use Rattle.elements.specs.declared.refusal.Refusal.{Refusal}
 use Rattle.elements.specs.declared.walk_state.WalkState.{WalkState}
-use Rattle.elements.specs.Given.{Due, text, denied, Fills, givenOf, longest}
+use Rattle.elements.specs.Given.{Due, text, denied, longest}
 use Rattle.elements.specs.Walk.{fresh}
-use Rattle.elements.proofs.GivenLaws.{fills-kept}
 use Rattle.frame_bytes.specs.Frame.{frameOf}
 use Rattle.walk_theory.specs.Index as theory
 use Rattle.walk_theory.specs.Index.{Along, filled, unfilled, opens, denies, into, indexingBy, entries, firstIn, EntryOf, Indexed}
@@ -32,12 +28,12 @@ use Rattle.grammar.proofs.FoundLaws.{reads}
 use Rattle.walk.specs.declared.answer.Answer.{Answer}
 use Rattle.walk.specs.declared.answer.Answer.the-variants.{Element, Clear, Print, End, Refused}
 use Rattle.walk.specs.Steps.{stateOf, answerOf}
-use Rattle.file_listing.specs.Listing.{FramedLabel, labelLines}
+use Rattle.file_listing.specs.Listing.{FramedLabel}
 use Rattle.label_index.specs.declared.entry.LabelEntry.{LabelEntry}
 use Rattle.label_index.specs.declared.labels.Indexed.the-variants as indexed
-use Rattle.label_index.specs.Entries.{EplEntry, entryOf, entriesOf, entriesFrom, noEntry}
+use Rattle.label_index.specs.Entries.{EplEntry, entriesOf, entriesFrom, noEntry}
 use Rattle.label_index.specs.Plan as plan
-use Rattle.label_index.specs.Plan.{Counted, EplFilling, counted, refused, countedOf, listOf, fillingOf, Indexes}
+use Rattle.label_index.specs.Plan.{Counted, EplFilling, counted, refused, countedOf, fillingOf, Indexes}
 use Rattle.label_opening.specs.Opened.{FramedOpening, openingDue, dueOf, entryDue}
 use Rattle.label_opening.proofs.FirstLaws.{due-found, entry-long, entry-past, entry-beyond, entry-backwards, entry-walked}
 use Rattle.laddertick.specs.Contracts as contracts

@@ -13,14 +13,13 @@ use Rattle.text.specs.Blank.{trim}
 use Rattle.text.specs.Fields.{fields, field, quoted}
 use Rattle.text.specs.Utf8.{decode}
 use Rattle.text.proofs.BoolLaws.{test}
-use Rattle.numbers.specs.Int.{in32, eqZ, maxZ}
+use Rattle.numbers.specs.Int.{in32, eqZ}
 use Rattle.numbers.specs.Number.{fieldOr}
 use Rattle.elements.specs.declared.DataSpan.{DataSpan}
 use Rattle.elements.specs.declared.FontScale.{FontScale}
 use Rattle.elements.specs.declared.LabelElement.{LabelElement}
 use Rattle.elements.specs.declared.LabelElement.the-variants as element
 use Rattle.elements.specs.declared.LabelPosition.{LabelPosition}
-use Rattle.elements.specs.declared.LineColor.{LineColor}
 use Rattle.elements.specs.declared.refusal.Refusal.{Refusal}
 use Rattle.elements.specs.declared.refusal.Refusal.the-variants as refusal
 use Rattle.elements.specs.Spans.{shifted}
@@ -53,7 +52,7 @@ use Rattle.command_letters.specs.declared.command.DataCommand.the-variants as c
 use Rattle.command_letters.specs.Command.{commandOf}
 use Rattle.commands.specs.Line.{paramsOf, withData, spanOf, quotedReading, commandReading, leadOf, readLine}
 use Rattle.walk_theory.specs.Language.{yield}
-use Rattle.walk_theory.specs.Step.{State, Answer, step}
+use Rattle.walk_theory.specs.Step.{State, step}
 use Rattle.walk_theory.specs.Step as theory
 use Rattle.walk_theory.proofs.TraceLaws.{Paid, paid-step}
 use Rattle.grammar.specs.Units.{EplUnit, block, line, last, number}

@@ -78,7 +78,7 @@ use Rattle.walk_theory.specs.Index as theory
 use Rattle.label_opening.specs.Opened as opening
 use Rattle.dots.specs.declared.element.Element300.{Element300}
 use Rattle.dots.specs.Length.{Near, Nearest, to300}
-use Rattle.dots_label.specs.Conversion.{Drawn, drawnOf}
+use Rattle.dots_label.specs.Conversion.{Drawn}
 use Rattle.dots_label.specs.Promise.{Denied, Resolved}
 use Rattle.laddertick.specs.Framed.{Framed}
 use Rattle.laddertick.specs.Converted as converted

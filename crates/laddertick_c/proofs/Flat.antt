@@ -35,7 +35,7 @@ use Rattle.lent_lists.proofs.Steps.{frees}
 use Rattle.lent_lists.proofs.Value.{value-ended}
 use Rattle.lent_lists.proofs.Walks.{Knowns, spells, Spec, walked, calls, calls-plain, typed}
 use Rattle.laddertick_c.proofs.Data.{Answer, written}
-use Rattle.laddertick_c.proofs.Locals.{Values, Blocks, row, firsts, locals, copies, past, parted, env, spot-past, after-result, held, allocs-all, passes-all, frees-all, beneath, at-spot, opds-as, opds-all}
+use Rattle.laddertick_c.proofs.Locals.{Values, row, firsts, locals, copies, past, parted, env, spot-past, after-result, allocs-all, passes-all, frees-all, beneath, at-spot, opds-as, opds-all}
 
 -- Says parameters (the parameters at exit) answer
 module _ (n : ℕ) (ps : List (Slot n)) (ks : Kepts ps) (S : Answer) (Says : (κs : Lfts n) → Denots (typesAt ps κs) → Outs κs ps ks → S .Plain → Type 0) where

@@ -50,15 +50,15 @@ use denote.Index.{row, place-is, elem-out, elem-put, opens-slice, closes-slice}
 use denote.Signature.{plain, shrSliceOf, mutSliceOf}
 use denote.Steps.{only, owned, nothing, heard}
 use denote.Struct.Laws as LL
-use denote.Triple.Entry.{Args, alive}
-use denote.Triple.Clauses.{Ended, Clauses, AtExit}
+use denote.Triple.Entry.{alive}
+use denote.Triple.Clauses.{Ended, Clauses}
 use denote.Triple.Statement.{Triple}
 use Rattle.lent_lists.specs.Filled.{made}
 use Rattle.lent_lists.proofs.Elem.{Elem, row-of, val, vals, elem, lent-mut, bytes, number, ref, ty, word, still-last, last-list}
 use Rattle.lent_lists.proofs.Place.{at-fits, size-fits}
 use Rattle.lent_lists.proofs.Steps.{whiles, frees, frees-room}
 use Rattle.lent_lists.proofs.Turns.{left-over, no-more-of, is-some, one-less, before}
-use Rattle.lent_lists.proofs.Walks.{Lives, Spec, walked, calls, typed}
+use Rattle.lent_lists.proofs.Walks.{Spec, walked, calls, typed}
 
 -- ---- lists
 length-made : {C E : Type 0} (step : C → C) (of : C → E) (n : ℕ) (c : C) → length (made step of n c) ≡ n

@@ -10,7 +10,7 @@
 --     State        where a turn begins: k elements are still to come, and passing them from here is passing all of them
 --                  from the start
 -- The list is looked into anew each turn; the buffer is lent again for each call. Assumes nothing.
-use mathlib.Core.Path.{_≡_, refl, sym, _∙_, ap, subst}
+use mathlib.Core.Path.{_≡_, refl, sym, ap, subst}
 use Prim.Native.Nat.{ℕ, suc, _<_, _≤_, _+_, _^_}
 use native.Mathlib.Nat.{add-zero, lt-suc-self, lt-of-le-of-lt, not-suc-le-zero}
 use native.Mathlib.Numerals.{add-one}

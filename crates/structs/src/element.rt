@@ -267,8 +267,32 @@ fn upce(e: BarcodeUcpeWithData) -> Element
     a
 }
 
-// An element of any kind.
-pub fn flat_element(e: LabelElement) -> Element
+// An element of any kind, for `laddertick_step` alone: with one caller it is compiled into it.
+pub(crate) fn flat_element(e: LabelElement) -> Element
+    ensures { λ r. ⌜ r ≡ flatElement e ⌝ }
+{
+    match e {
+        LabelElement::Text(x) => text_field(x),
+        LabelElement::GraphicBox(x) => graphic_box(x),
+        LabelElement::DiagonalLine(x) => diagonal(x),
+        LabelElement::GraphicField(x) => graphic_field(x),
+        LabelElement::Barcode128(x) => code_128(x),
+        LabelElement::BarcodeEan13(x) => ean13(x),
+        LabelElement::BarcodeEan8(x) => ean8(x),
+        LabelElement::BarcodeUca(x) => upca(x),
+        LabelElement::Barcode2of5(x) => interleaved(x),
+        LabelElement::Barcode39(x) => code_39(x),
+        LabelElement::BarcodePdf417(x) => pdf417(x),
+        LabelElement::BarcodeAztec(x) => aztec(x),
+        LabelElement::BarcodeDatamatrix(x) => datamatrix(x),
+        LabelElement::BarcodeQr(x) => qr(x),
+        LabelElement::Maxicode(x) => maxicode(x),
+        LabelElement::BarcodeUcpe(x) => upce(x),
+    }
+}
+
+// The same, for all others.
+pub fn struct_of(e: LabelElement) -> Element
     ensures { λ r. ⌜ r ≡ flatElement e ⌝ }
 {
     match e {

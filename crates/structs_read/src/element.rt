@@ -44,7 +44,7 @@ use elements::QrErrorCorrectionLevel;
 use elements::TextField;
 use numbers::int::equal;
 use structs::answer::Element;
-use structs::element::flat_element;
+use structs::element::struct_of;
 
 // Quarter turns; any other number is none.
 fn orientation_of(r: u8) -> FieldOrientation
@@ -453,5 +453,5 @@ pub fn element_of(x: Element) -> LabelElement
 pub fn is_element(x: Element) -> bool
     ensures { λ r. ⌜ r ≡ standing x ⌝ }
 {
-    same(flat_element(element_of(x)), x)
+    same(struct_of(element_of(x)), x)
 }

@@ -11,9 +11,8 @@ use denote.Enum.Declared.{tagOf, declared}
 use Rattle.elements.specs.declared.LabelElement.{LabelElement}
 use Rattle.elements.specs.declared.walk_state.WalkState.{WalkState}
 use Rattle.walk_theory.specs.Step.{step}
-use Rattle.walk_theory.specs.Trace.{after}
 use Rattle.grammar.specs.Epl.{epl}
-use Rattle.walk.specs.Steps.{stateOf, answerOf, traceOf}
+use Rattle.walk.specs.Steps.{stateOf, answerOf}
 use Rattle.walk.specs.declared.answer.Answer.{Answer}
 use Rattle.walk.specs.declared.answer.Answer.the-variants.{Element, Clear, Print, End, Refused}
 use Rattle.walk.proofs.answer.Answer.{enum}

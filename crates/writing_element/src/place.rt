@@ -12,7 +12,7 @@ use crate::write::can_write;
 use crate::write::which_of;
 use elements::refusal::LONGEST;
 use structs::answer::Element;
-use structs::element::flat_element;
+use structs::element::struct_of;
 use structs_read::element::element_of;
 use structs_read::element::is_element;
 use writing_limits::fine::holds;
@@ -59,7 +59,7 @@ pub fn put_plain(input: &[u8], out: &mut [u8], at: usize, writing: bool, x: Elem
     ensures { λ r. ⌜ Puts (now (out .exit)) (now (out .entry)) writing at (textOf (plainDue (now (input .entry)) x)) r ⌝ }
 {
     if is_element(x) {
-        return put_flat(input, out, at, writing, flat_element(element_of(x)));
+        return put_flat(input, out, at, writing, struct_of(element_of(x)));
     }
     0
 }

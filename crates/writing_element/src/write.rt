@@ -15,7 +15,7 @@ use elements::refusal::LONGEST;
 use elements::refusal::Refusal;
 use frame_bytes::data::part;
 use structs::answer::Element;
-use structs::element::flat_element;
+use structs::element::struct_of;
 use writing_limits::fine::fine_bytes;
 use writing_limits::fine::fine_numbers;
 use writing_limits::fine::is_line;
@@ -108,5 +108,5 @@ fn write_flat(input: &[u8], e: Element, out: &mut [u8]) -> Filled
 pub fn write(input: &[u8], e: LabelElement, out: &mut [u8]) -> Filled
     ensures { λ r. ⌜ Fills (now (out .exit)) (now (out .entry)) (elementDue (now (input .entry)) e) (givenOf r) ⌝ }
 {
-    write_flat(input, flat_element(e), out)
+    write_flat(input, struct_of(e), out)
 }

@@ -7,20 +7,20 @@
 --     as-passed, bounded       what the code's pass says of the buffer and of the texts' lengths
 -- Assumes nothing.
 use mathlib.Core.Path.{_≡_, refl, sym, ap, _∙_, subst}
-use mathlib.Core.Bool.{Bool, true, false, cond}
+use mathlib.Core.Bool.{Bool, true, false}
 use mathlib.Core.List.{List, [], _∷_, _++_, foldl}
 use Prim.Native.Nat.{ℕ, suc, _+_, _-_, _*_, _≤_, _<_}
 use native.Mathlib.Omega.{arith}
-use lib.Dec.{eqb, leb}
+use lib.Dec.{eqb}
 use lib.ListN.{length, length-append}
 use lib.Seq.{sets, length-sets}
-use borrow.Author.Tests.{le-leb, eqb-true, eqb-false}
+use borrow.Author.Tests.{le-leb}
 use Rattle.text.proofs.BoolLaws.{test}
 use Rattle.text.proofs.WroteLaws.{sets-append}
 use Rattle.lent_lists.specs.Passed.{Passes}
 use Rattle.writing_element.specs.Place.{placedAt}
 use Rattle.writing_label.specs.declared.tally.Tally.{Tally}
-use Rattle.writing_label.specs.Tally.{onto, stoppedOf, tally, afterOf, turned, Turns, firstNone, texts}
+use Rattle.writing_label.specs.Tally.{onto, stoppedOf, tally, turned, Turns, firstNone, texts}
 
 abbrev Held : Type 0
 Held = Tally × List ℕ

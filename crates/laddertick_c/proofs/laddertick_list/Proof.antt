@@ -4,17 +4,8 @@ use borrow.Author.Needs.{needs}
 use Rattle.laddertick_c.proofs.laddertick_list.Statement.{statement}
 use Rattle.laddertick_c.proofs.laddertick_list.Tie as tie
 
-list-requires : tie.Need-list-requires
-list-requires c κs = search needs
-
-of-filled-requires : tie.Need-of-filled-requires
-of-filled-requires c κs = search needs
-
-same-length : tie.Need-same-length
-same-length c = search needs
-
 returns : tie.Need-returns
 returns c = let w = c .before .before .before .list .ensures in record { answer = c .of-filled .ensures ∙ w .answer; buffer = w .buffer }
 
 pub laddertick-list-spec : {M : Type 1} → statement M
-laddertick-list-spec = tie.close (tie.spec list-requires of-filled-requires same-length returns)
+laddertick-list-spec = tie.close (tie.spec (λ c κs. search needs) (λ c κs. search needs) (λ c. search needs) returns)

@@ -9,7 +9,7 @@ use base.Logic.{emp, id⊢}
 use base.Fml.{Fml}
 use contract.Monad.{factI}
 use contract.Running.{givenOf}
-use types.Kit.{Given, ‵, raw, _$_, !, by, move, keep, use1, drop, fsplit, fjoin}
+use types.Kit.{Given, ‵, _$_, !, by, move, keep, use1, drop, fsplit, fjoin}
 use types.Run.{look, init, stop, from, load, and-then, no-more, land, returns, alloc1, alloc0, params1, pass1, pass0, free0}
 use denote.Laws.{Is, owns-make}
 use denote.Plain.{uint-makes, uint-vals}
@@ -19,7 +19,6 @@ use denote.Ref.{RefT, now}
 use denote.Slice.{ShrSlice, slice-vals}
 use denote.Steps.{owned, nothing}
 use denote.Triple.Table.{cited}
-use Rattle.elements.specs.declared.LabelPosition.{LabelPosition}
 use Rattle.label_index.specs.declared.entry.LabelEntry.{LabelEntry}
 use Rattle.label_index.proofs.Elems.{entry}
 use Rattle.lent_lists.proofs.Elem.{row-of, elem, made-of, bytes, number, lent}

@@ -4,15 +4,6 @@ use borrow.Author.Needs.{needs}
 use Rattle.laddertick_c.proofs.laddertick_normalise.Statement.{statement}
 use Rattle.laddertick_c.proofs.laddertick_normalise.Tie as tie
 
-normalise-requires : tie.Need-normalise-requires
-normalise-requires c κs = search needs
-
-of-filled-requires : tie.Need-of-filled-requires
-of-filled-requires c κs = search needs
-
-same-length : tie.Need-same-length
-same-length c = search needs
-
 returns : tie.Need-returns
 returns c = let w = c .before .before .before .normalise .ensures in record { answer = c .of-filled .ensures ∙ w .answer; buffer = w .buffer }
 
@@ -20,7 +11,7 @@ pub laddertick-normalise-spec : {M : Type 1} → statement M
 laddertick-normalise-spec =
     tie.close
     (tie.spec
-    normalise-requires
-    of-filled-requires
-    same-length
+    (λ c κs. search needs)
+    (λ c κs. search needs)
+    (λ c. search needs)
     returns)

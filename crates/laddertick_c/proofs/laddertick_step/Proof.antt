@@ -5,14 +5,8 @@ use borrow.Author.Needs.{needs}
 use Rattle.laddertick_c.proofs.laddertick_step.Statement.{statement}
 use Rattle.laddertick_c.proofs.laddertick_step.Tie as tie
 
-step-requires : tie.Need-step-requires
-step-requires c κs = search needs
-
-flat-step-requires : tie.Need-flat-step-requires
-flat-step-requires c κs = search needs
-
 returns : tie.Need-returns
 returns c = c .flat-step .ensures ∙ ap flatOf (c .before .step .ensures)
 
 pub laddertick-step-spec : {M : Type 1} → statement M
-laddertick-step-spec = tie.close (tie.spec step-requires flat-step-requires returns)
+laddertick-step-spec = tie.close (tie.spec (λ c κs. search needs) (λ c κs. search needs) returns)

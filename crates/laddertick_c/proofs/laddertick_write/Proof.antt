@@ -4,17 +4,8 @@ use borrow.Author.Needs.{needs}
 use Rattle.laddertick_c.proofs.laddertick_write.Statement.{statement}
 use Rattle.laddertick_c.proofs.laddertick_write.Tie as tie
 
-write-plain-requires : tie.Need-write-plain-requires
-write-plain-requires c κs = search needs
-
-of-filled-requires : tie.Need-of-filled-requires
-of-filled-requires c κs = search needs
-
-same-length : tie.Need-same-length
-same-length c = search needs
-
 returns : tie.Need-returns
 returns c = let w = c .before .before .before .write-plain .ensures in record { answer = c .of-filled .ensures ∙ w .answer; buffer = w .buffer }
 
 pub laddertick-write-spec : {M : Type 1} → statement M
-laddertick-write-spec = tie.close (tie.spec write-plain-requires of-filled-requires same-length returns)
+laddertick-write-spec = tie.close (tie.spec (λ c κs. search needs) (λ c κs. search needs) (λ c. search needs) returns)

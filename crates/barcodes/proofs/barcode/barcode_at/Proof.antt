@@ -19,33 +19,15 @@ at d =
     let p = d .before .before .before .before .before .before .before .args .f .at in
     simp (back32 (p .x) (d .before .before .struct-told .given .0 .1), back32 (p .y) (d .before .struct-told2 .given .1 .0 .1)) at (d .place .ensures)
 
-is-listed-requires : tie.Need-is-listed-requires
-is-listed-requires c κs = search needs
-
 returns : tie.Need-returns
 unfolding barcodeAt
 returns c = simp (sym (c .before .is-listed .ensures) ∙ not-true (c .before .is-listed .result) (c .if1 .taken))
-
-place-requires : tie.Need-place-requires
-place-requires c κs = search needs
-
-enum-known-position : tie.Need-enum-known-position
-enum-known-position c = search needs
-
-enum-told : tie.Need-enum-told
-enum-told c = search needs
 
 returns-2 : tie.Need-returns-2
 unfolding barcodeAt
 returns-2 c =
     let d = c .before .before in
     simp (listed (d .before .before .before), sym (at d) ∙ c .enum-told .given .1)
-
-epl-rotation-requires : tie.Need-epl-rotation-requires
-epl-rotation-requires c κs = search needs
-
-barcode-element-requires : tie.Need-barcode-element-requires
-barcode-element-requires c κs = search needs
 
 returns-3 : tie.Need-returns-3
 unfolding barcodeAt
@@ -59,12 +41,12 @@ pub barcode-at-spec : {M : Type 1} → statement M
 barcode-at-spec =
     tie.close
     (tie.spec
-    is-listed-requires
+    (λ c κs. search needs)
     returns
-    place-requires
-    enum-known-position
-    enum-told
+    (λ c κs. search needs)
+    (λ c. search needs)
+    (λ c. search needs)
     returns-2
-    epl-rotation-requires
-    barcode-element-requires
+    (λ c κs. search needs)
+    (λ c κs. search needs)
     returns-3)

@@ -7,9 +7,6 @@ use Rattle.barcodes.specs.Barcode.{interleaved}
 use Rattle.barcodes.proofs.barcode.interleaved.Statement.{statement}
 use Rattle.barcodes.proofs.barcode.interleaved.Tie as tie
 
-bar-ratio-requires : tie.Need-bar-ratio-requires
-bar-ratio-requires c κs = search needs
-
 returns : tie.Need-returns
 unfolding interleaved
 returns c =
@@ -20,4 +17,4 @@ returns c =
     rw (back32 (bars .height) (told .1 .1 .0 .1), narrow, wide, simp (narrow, wide) at (c .before .bar-ratio .ensures))
 
 pub interleaved-spec : {M : Type 1} → statement M
-interleaved-spec = tie.close (tie.spec bar-ratio-requires returns)
+interleaved-spec = tie.close (tie.spec (λ c κs. search needs) returns)

@@ -5,9 +5,6 @@ use Rattle.barcodes.proofs.BarcodeLaws.{listed-tag}
 use Rattle.barcodes.proofs.barcode.is_listed.Statement.{statement}
 use Rattle.barcodes.proofs.barcode.is_listed.Tie as tie
 
-enum-told : tie.Need-enum-told
-enum-told c = search needs
-
 returns : tie.Need-returns
 returns c = rw (c .enum-told .given .1)
 
@@ -15,4 +12,4 @@ returns-2 : tie.Need-returns-2
 returns-2 c = listed-tag (c .before .args .s) (c .match .keys2)
 
 pub is-listed-spec : {M : Type 1} → statement M
-is-listed-spec = tie.close (tie.spec enum-told returns returns-2)
+is-listed-spec = tie.close (tie.spec (λ c. search needs) returns returns-2)

@@ -71,51 +71,9 @@ module _ (d : tie.After-size-from2) where
 counted : (d : tie.After-reaches) → d .reaches .result ≡ leb 8 (length (fields (s (d .before .before))))
 counted d = let h = d .before .before in reached 7 (s h) (t h) (h .size-from2 .result .next) (at-l h) refl (d .reaches .ensures)
 
-number-from-requires : tie.Need-number-from-requires
-number-from-requires c κs = search needs
-
-number-from-requires-2 : tie.Need-number-from-requires-2
-number-from-requires-2 c κs = search needs
-
-number-from-requires-3 : tie.Need-number-from-requires-3
-number-from-requires-3 c κs = search needs
-
-rest-from-requires : tie.Need-rest-from-requires
-rest-from-requires c κs = search needs
-
-find-requires : tie.Need-find-requires
-find-requires c κs = search needs
-
-add-size-from : tie.Need-add-size-from
-add-size-from c = search needs
-
-size-from-requires : tie.Need-size-from-requires
-size-from-requires c κs = search needs
-
-number-from-requires-4 : tie.Need-number-from-requires-4
-number-from-requires-4 c κs = search needs
-
-size-from-requires-2 : tie.Need-size-from-requires-2
-size-from-requires-2 c κs = search needs
-
-reaches-requires : tie.Need-reaches-requires
-reaches-requires c κs = search needs
-
 returns : tie.Need-returns
 unfolding barcodeReading
 returns c = too-few _ _ _ _ (counted (c .before)) (c .if1 .taken)
-
-symbology-upto-requires : tie.Need-symbology-upto-requires
-symbology-upto-requires c κs = search needs
-
-rest-from-requires-2 : tie.Need-rest-from-requires-2
-rest-from-requires-2 c κs = search needs
-
-is-exactly-requires : tie.Need-is-exactly-requires
-is-exactly-requires c κs = search needs
-
-barcode-at-requires : tie.Need-barcode-at-requires
-barcode-at-requires c κs = search needs
 
 returns-2 : tie.Need-returns-2
 unfolding barcodeReading barcodeFields pointOf numberAt sizeAt typeAt exactlyAt
@@ -157,19 +115,19 @@ pub parse-epl-barcode-spec : {M : Type 1} → statement M
 parse-epl-barcode-spec =
     tie.close
     (tie.spec
-    number-from-requires
-    number-from-requires-2
-    number-from-requires-3
-    rest-from-requires
-    find-requires
-    add-size-from
-    size-from-requires
-    number-from-requires-4
-    size-from-requires-2
-    reaches-requires
+    (λ c κs. search needs)
+    (λ c κs. search needs)
+    (λ c κs. search needs)
+    (λ c κs. search needs)
+    (λ c κs. search needs)
+    (λ c. search needs)
+    (λ c κs. search needs)
+    (λ c κs. search needs)
+    (λ c κs. search needs)
+    (λ c κs. search needs)
     returns
-    symbology-upto-requires
-    rest-from-requires-2
-    is-exactly-requires
-    barcode-at-requires
+    (λ c κs. search needs)
+    (λ c κs. search needs)
+    (λ c κs. search needs)
+    (λ c κs. search needs)
     returns-2)

@@ -11,15 +11,9 @@ use Rattle.barcodes.proofs.barcode.symbology_upto.Tie as tie
 slice-aggregate-trim : tie.Need-slice-aggregate-trim
 slice-aggregate-trim c = simp length-take (omega arith)
 
-trim-requires : tie.Need-trim-requires
-trim-requires c κs = search needs
-
-symbology-of-requires : tie.Need-symbology-of-requires
-symbology-of-requires c κs = search needs
-
 returns : tie.Need-returns
 returns c = c .symbology-of .ensures ∙ ap symbologyOf (c .before .trim .ensures)
 
 pub symbology-upto-spec : {M : Type 1} → statement M
 symbology-upto-spec =
-    tie.close (tie.spec slice-aggregate-trim trim-requires symbology-of-requires returns)
+    tie.close (tie.spec slice-aggregate-trim (λ c κs. search needs) (λ c κs. search needs) returns)

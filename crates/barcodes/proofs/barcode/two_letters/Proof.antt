@@ -6,9 +6,6 @@ use Rattle.barcodes.specs.Letters.{twoLetters}
 use Rattle.barcodes.proofs.barcode.two_letters.Statement.{statement}
 use Rattle.barcodes.proofs.barcode.two_letters.Tie as tie
 
-code-128-letter-requires : tie.Need-code-128-letter-requires
-code-128-letter-requires c κs = search needs
-
 returns : tie.Need-returns
 unfolding twoLetters
 returns c = simp (c .before .if1 .taken) (c .code-128-letter .ensures)
@@ -26,4 +23,4 @@ unfolding twoLetters
 returns-4 c = simp (ne-eqb (c .before .before .before .args .a) 49 (c .before .before .if1 .left), c .before .if2 .left, c .if3 .left)
 
 pub two-letters-spec : {M : Type 1} → statement M
-two-letters-spec = tie.close (tie.spec code-128-letter-requires returns returns-2 returns-3 returns-4)
+two-letters-spec = tie.close (tie.spec (λ c κs. search needs) returns returns-2 returns-3 returns-4)

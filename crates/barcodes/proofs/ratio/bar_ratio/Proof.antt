@@ -6,12 +6,6 @@ use borrow.Author.Needs.{needs}
 use Rattle.barcodes.proofs.ratio.bar_ratio.Statement.{statement}
 use Rattle.barcodes.proofs.ratio.bar_ratio.Tie as tie
 
-int-to-float-q : tie.Need-int-to-float-q
-int-to-float-q c = search needs
-
-int-to-float-q-2 : tie.Need-int-to-float-q-2
-int-to-float-q-2 c = search needs
-
 returns : tie.Need-returns
 unfolding ratioOf
 returns c =
@@ -25,4 +19,4 @@ returns-2 c =
     simp (toZ-ofZ (s .fits .wide), toZ-ofZ (s .fits .narrow), simp (toZ-ofZ (s .fits .wide), toZ-ofZ (s .fits .narrow)) at (c .if1 .left))
 
 pub bar-ratio-spec : {M : Type 1} → statement M
-bar-ratio-spec = tie.close (tie.spec int-to-float-q int-to-float-q-2 returns returns-2)
+bar-ratio-spec = tie.close (tie.spec (λ c. search needs) (λ c. search needs) returns returns-2)

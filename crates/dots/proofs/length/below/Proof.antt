@@ -9,9 +9,6 @@ use borrow.Author.Needs.{needs}
 use Rattle.dots.proofs.length.below.Statement.{statement}
 use Rattle.dots.proofs.length.below.Tie as tie
 
-cast-result : tie.Need-cast-result
-cast-result c = search needs
-
 sub-result : tie.Need-sub-result
 sub-result c = rw (toZ-pos w64 {n = c .args .z} (omega arith), minus-one (c .args .z)) (record { sfits = omega arith })
 
@@ -22,4 +19,4 @@ returns : tie.Need-returns
 returns c = rw (toZ-pos w64 {n = c .args .z} (omega arith), minus-one (c .args .z), back64 (negsuc (c .args .z)) (omega arith), back32 (negsuc (c .args .z)) (c .pre))
 
 pub below-spec : {M : Type 1} → statement M
-below-spec = tie.close (tie.spec cast-result sub-result cast-result-2 returns)
+below-spec = tie.close (tie.spec (λ c. search needs) sub-result cast-result-2 returns)

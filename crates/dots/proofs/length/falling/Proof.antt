@@ -7,15 +7,6 @@ use borrow.Author.Needs.{needs}
 use Rattle.dots.proofs.length.falling.Statement.{statement}
 use Rattle.dots.proofs.length.falling.Tie as tie
 
-mul-z : tie.Need-mul-z
-mul-z c = search needs
-
-add-z : tie.Need-add-z
-add-z c = search needs
-
-below-requires : tie.Need-below-requires
-below-requires c κs = search needs
-
 returns : tie.Need-returns
 returns c =
     let k = c .before .before .args .k in
@@ -25,4 +16,4 @@ returns-2 : tie.Need-returns-2
 returns-2 c = let k = c .before .args .k in converted-past (negsuc k) (negsuc ((k * 600 + 396) / 406)) (to300-neg k) (c .if1 .left)
 
 pub falling-spec : {M : Type 1} → statement M
-falling-spec = tie.close (tie.spec mul-z add-z below-requires returns returns-2)
+falling-spec = tie.close (tie.spec (λ c. search needs) (λ c. search needs) (λ c κs. search needs) returns returns-2)

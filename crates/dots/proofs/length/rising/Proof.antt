@@ -8,15 +8,6 @@ use borrow.Author.Needs.{needs}
 use Rattle.dots.proofs.length.rising.Statement.{statement}
 use Rattle.dots.proofs.length.rising.Tie as tie
 
-mul-z : tie.Need-mul-z
-mul-z c = search needs
-
-add-z : tie.Need-add-z
-add-z c = search needs
-
-cast-t6 : tie.Need-cast-t6
-cast-t6 c = search needs
-
 returns : tie.Need-returns
 returns c =
     let k = c .before .args .k in
@@ -26,4 +17,4 @@ returns-2 : tie.Need-returns-2
 returns-2 c = let k = c .before .args .k in converted-past (pos k) (pos ((k * 600 + 203) / 406)) (to300-pos k) (c .if1 .left)
 
 pub rising-spec : {M : Type 1} → statement M
-rising-spec = tie.close (tie.spec mul-z add-z cast-t6 returns returns-2)
+rising-spec = tie.close (tie.spec (λ c. search needs) (λ c. search needs) (λ c. search needs) returns returns-2)

@@ -23,26 +23,8 @@ low c = twos-low (c .before .before .before .args .n .0) (c .before .bits .resul
 high : (c : tie.Else1) → c .before .before .before .args .n .0 ≡ negsuc (4294967295 - c .before .bits .result)
 high c = twos-high (c .before .before .before .args .n .0) (c .before .bits .result) (small (c .before)) (its-bits (c .before)) (c .if1 .left)
 
-bits-requires : tie.Need-bits-requires
-bits-requires c κs = search needs
-
-cast-rising : tie.Need-cast-rising
-cast-rising c = search needs
-
-rising-requires : tie.Need-rising-requires
-rising-requires c κs = search needs
-
 returns : tie.Need-returns
 returns c = c .rising .ensures ∙ sym (ap (λ (z : ℤ). converted (to300 z)) (low (c .before)))
-
-sub-falling : tie.Need-sub-falling
-sub-falling c = search needs
-
-cast-falling : tie.Need-cast-falling
-cast-falling c = search needs
-
-falling-requires : tie.Need-falling-requires
-falling-requires c κs = search needs
 
 returns-2 : tie.Need-returns-2
 returns-2 c = c .falling .ensures ∙ sym (ap (λ (z : ℤ). converted (to300 z)) (high (c .before)))
@@ -51,11 +33,11 @@ pub to-300-spec : {M : Type 1} → statement M
 to-300-spec =
     tie.close
     (tie.spec
-    bits-requires
-    cast-rising
-    rising-requires
+    (λ c κs. search needs)
+    (λ c. search needs)
+    (λ c κs. search needs)
     returns
-    sub-falling
-    cast-falling
-    falling-requires
+    (λ c. search needs)
+    (λ c. search needs)
+    (λ c κs. search needs)
     returns-2)

@@ -23,7 +23,7 @@ returns c =
     let d = c .before .before .before .before .before in
     let g = c .before .before .before .state .given in
     ap (λ (x : Element300). record { element = x; state = g .0 .0; last = d .before .before .before .before .before .args .c .last })
-    (c .element-300 .ensures ∙ ap (λ (f : flat.Element). orNothing (convertedElement f)) (c .before .flat-element .ensures))
+    (c .element-300 .ensures ∙ ap (λ (f : flat.Element). orNothing (convertedElement f)) (c .before .struct-of .ensures))
     ∙ told d (Element (g .0 .0) (g .0 .1 .0)) (g .1)
 
 returns-2 : tie.Need-returns-2

@@ -14,99 +14,6 @@ use Rattle.elements.proofs.plain.plain_of.Tie as tie
 back : (z : ℤ) → mag z < 2147483648 → toZ w32 (ofZ w32 z) ≡ z
 back z h = toZ-ofZ (record { sfits = h })
 
-enum-known-e : tie.Need-enum-known-e
-enum-known-e c = search needs
-
-decoded-requires : tie.Need-decoded-requires
-decoded-requires c κs = search needs
-
-enum-known-e-2 : tie.Need-enum-known-e-2
-enum-known-e-2 c = search needs
-
-drawn-requires : tie.Need-drawn-requires
-drawn-requires c κs = search needs
-
-enum-known-e-3 : tie.Need-enum-known-e-3
-enum-known-e-3 c = search needs
-
-drawn-requires-2 : tie.Need-drawn-requires-2
-drawn-requires-2 c κs = search needs
-
-enum-known-e-4 : tie.Need-enum-known-e-4
-enum-known-e-4 c = search needs
-
-enum-known-e-5 : tie.Need-enum-known-e-5
-enum-known-e-5 c = search needs
-
-decoded-requires-2 : tie.Need-decoded-requires-2
-decoded-requires-2 c κs = search needs
-
-enum-known-e-6 : tie.Need-enum-known-e-6
-enum-known-e-6 c = search needs
-
-decoded-requires-3 : tie.Need-decoded-requires-3
-decoded-requires-3 c κs = search needs
-
-enum-known-e-7 : tie.Need-enum-known-e-7
-enum-known-e-7 c = search needs
-
-decoded-requires-4 : tie.Need-decoded-requires-4
-decoded-requires-4 c κs = search needs
-
-enum-known-e-8 : tie.Need-enum-known-e-8
-enum-known-e-8 c = search needs
-
-decoded-requires-5 : tie.Need-decoded-requires-5
-decoded-requires-5 c κs = search needs
-
-enum-known-e-9 : tie.Need-enum-known-e-9
-enum-known-e-9 c = search needs
-
-decoded-requires-6 : tie.Need-decoded-requires-6
-decoded-requires-6 c κs = search needs
-
-enum-known-e-10 : tie.Need-enum-known-e-10
-enum-known-e-10 c = search needs
-
-decoded-requires-7 : tie.Need-decoded-requires-7
-decoded-requires-7 c κs = search needs
-
-enum-known-e-11 : tie.Need-enum-known-e-11
-enum-known-e-11 c = search needs
-
-decoded-requires-8 : tie.Need-decoded-requires-8
-decoded-requires-8 c κs = search needs
-
-enum-known-e-12 : tie.Need-enum-known-e-12
-enum-known-e-12 c = search needs
-
-decoded-requires-9 : tie.Need-decoded-requires-9
-decoded-requires-9 c κs = search needs
-
-enum-known-e-13 : tie.Need-enum-known-e-13
-enum-known-e-13 c = search needs
-
-decoded-requires-10 : tie.Need-decoded-requires-10
-decoded-requires-10 c κs = search needs
-
-enum-known-e-14 : tie.Need-enum-known-e-14
-enum-known-e-14 c = search needs
-
-decoded-requires-11 : tie.Need-decoded-requires-11
-decoded-requires-11 c κs = search needs
-
-enum-known-e-15 : tie.Need-enum-known-e-15
-enum-known-e-15 c = search needs
-
-decoded-requires-12 : tie.Need-decoded-requires-12
-decoded-requires-12 c κs = search needs
-
-enum-known-e-16 : tie.Need-enum-known-e-16
-enum-known-e-16 c = search needs
-
-decoded-requires-13 : tie.Need-decoded-requires-13
-decoded-requires-13 c κs = search needs
-
 returns : tie.Need-returns
 returns c = rw (c .before .before .before .before .before .before .e .given .1) (c .decoded .ensures)
 
@@ -208,37 +115,37 @@ pub plain-of-spec : {M : Type 1} → statement M
 plain-of-spec =
     tie.close
     (tie.spec
-    enum-known-e
-    decoded-requires
-    enum-known-e-2
-    drawn-requires
-    enum-known-e-3
-    drawn-requires-2
-    enum-known-e-4
-    enum-known-e-5
-    decoded-requires-2
-    enum-known-e-6
-    decoded-requires-3
-    enum-known-e-7
-    decoded-requires-4
-    enum-known-e-8
-    decoded-requires-5
-    enum-known-e-9
-    decoded-requires-6
-    enum-known-e-10
-    decoded-requires-7
-    enum-known-e-11
-    decoded-requires-8
-    enum-known-e-12
-    decoded-requires-9
-    enum-known-e-13
-    decoded-requires-10
-    enum-known-e-14
-    decoded-requires-11
-    enum-known-e-15
-    decoded-requires-12
-    enum-known-e-16
-    decoded-requires-13
+    (λ c. search needs)
+    (λ c κs. search needs)
+    (λ c. search needs)
+    (λ c κs. search needs)
+    (λ c. search needs)
+    (λ c κs. search needs)
+    (λ c. search needs)
+    (λ c. search needs)
+    (λ c κs. search needs)
+    (λ c. search needs)
+    (λ c κs. search needs)
+    (λ c. search needs)
+    (λ c κs. search needs)
+    (λ c. search needs)
+    (λ c κs. search needs)
+    (λ c. search needs)
+    (λ c κs. search needs)
+    (λ c. search needs)
+    (λ c κs. search needs)
+    (λ c. search needs)
+    (λ c κs. search needs)
+    (λ c. search needs)
+    (λ c κs. search needs)
+    (λ c. search needs)
+    (λ c κs. search needs)
+    (λ c. search needs)
+    (λ c κs. search needs)
+    (λ c. search needs)
+    (λ c κs. search needs)
+    (λ c. search needs)
+    (λ c κs. search needs)
     returns
     returns-2
     returns-3

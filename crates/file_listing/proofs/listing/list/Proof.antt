@@ -36,15 +36,6 @@ module _ (s : List ℕ) (n : ℕ) (e : bytes n ≡ needed (dueOf s)) where
 told : (d : tie.After-measure) (q : Filled) → d .measure .result ≡ q → givenOf q ≡ needed (dueOf (d .before .before .before .args .input .now))
 told d q e = ap givenOf (sym e) ∙ d .measure .ensures
 
-measure-requires : tie.Need-measure-requires
-measure-requires c κs = search needs
-
-enum-known-k : tie.Need-enum-known-k
-enum-known-k c = search needs
-
-enum-known-n : tie.Need-enum-known-n
-enum-known-n c = search needs
-
 returns : tie.Need-returns
 returns c =
     let m = c .before .before .before .before in
@@ -66,9 +57,6 @@ returns-2 c =
     let k = c .before .k .given in
     fills-denied (a .out .now) (needed-denied (dueOf (a .input .now)) (told m (Refused (k .0 .0) (k .0 .1 .0)) (k .1)))
 
-same-length : tie.Need-same-length
-same-length c = search needs
-
 returns-3 : tie.Need-returns-3
 returns-3 c =
     let p = c .before .before in
@@ -83,11 +71,11 @@ pub list-spec : {M : Type 1} → statement M
 list-spec =
     tie.close
     (tie.spec
-    measure-requires
-    enum-known-k
-    enum-known-n
+    (λ c κs. search needs)
+    (λ c. search needs)
+    (λ c. search needs)
     returns
     put-labels-requires
     returns-2
-    same-length
+    (λ c. search needs)
     returns-3)

@@ -10,9 +10,6 @@ use Rattle.file_listing.proofs.listing.put_end.Tie as tie
 put-pending-requires : tie.Need-put-pending-requires
 put-pending-requires c κs = omega (arith, length-pending (c .before .before .before .args .n) (c .before .if1 .taken))
 
-same-length : tie.Need-same-length
-same-length c = search needs
-
 returns : tie.Need-returns
 returns c = rw (pending-some (c .before .before .before .before .before .before .args .n) (omega arith)) (c .before .before .put-pending .ensures)
 
@@ -20,4 +17,4 @@ returns-2 : tie.Need-returns-2
 returns-2 c = rw (pending-none (c .before .before .args .n) (c .if1 .left)) (record { wrote = wrote refl; next = omega arith })
 
 pub put-end-spec : {M : Type 1} → statement M
-put-end-spec = tie.close (tie.spec put-pending-requires same-length returns returns-2)
+put-end-spec = tie.close (tie.spec put-pending-requires (λ c. search needs) returns returns-2)

@@ -31,9 +31,6 @@ put-elements-requires c κs =
     let a = k .before .before .before .before .before .args in
     omega (arith, length-label (a .p .count) (a .p .counts) (frontFrames (a .input .now) (a .first)), k .put-label-frame .ensures .next, k .put-label-frame .ensures .wrote .long, length-frame (a .p .count) (a .p .counts))
 
-same-length : tie.Need-same-length
-same-length c = search needs
-
 returns : tie.Need-returns
 returns c =
     let w = c .before .before in
@@ -42,4 +39,4 @@ returns c =
     put-both (lineOf (labelFrame (a .p .count) (a .p .counts))) (linesOf (frontFrames (a .input .now) (a .first))) (k .put-label-frame .ensures) (w .put-elements .ensures)
 
 pub put-label-spec : {M : Type 1} → statement M
-put-label-spec = tie.close (tie.spec put-label-frame-requires put-elements-requires same-length returns)
+put-label-spec = tie.close (tie.spec put-label-frame-requires put-elements-requires (λ c. search needs) returns)

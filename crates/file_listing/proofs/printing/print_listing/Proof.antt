@@ -5,27 +5,12 @@ use borrow.Author.Needs.{needs}
 use Rattle.file_listing.proofs.printing.print_listing.Statement.{statement}
 use Rattle.file_listing.proofs.printing.print_listing.Tie as tie
 
-put-answer-requires : tie.Need-put-answer-requires
-put-answer-requires c κs = search needs
-
-same-length : tie.Need-same-length
-same-length c = search needs
-
 returns : tie.Need-returns
 returns c =
     let k = c .before .before in
     let t = k .before .before in
     let a = t .before .before .before .args in
     prints-long (a .input .now) (a .out .now) (dueOf (a .input .now)) (t .if1 .taken) (k .put-answer .ensures)
-
-list-requires : tie.Need-list-requires
-list-requires c κs = search needs
-
-put-answer-requires-2 : tie.Need-put-answer-requires-2
-put-answer-requires-2 c κs = search needs
-
-same-length-2 : tie.Need-same-length-2
-same-length-2 c = search needs
 
 returns-2 : tie.Need-returns-2
 returns-2 c =
@@ -38,10 +23,10 @@ pub print-listing-spec : {M : Type 1} → statement M
 print-listing-spec =
     tie.close
     (tie.spec
-    put-answer-requires
-    same-length
+    (λ c κs. search needs)
+    (λ c. search needs)
     returns
-    list-requires
-    put-answer-requires-2
-    same-length-2
+    (λ c κs. search needs)
+    (λ c κs. search needs)
+    (λ c. search needs)
     returns-2)

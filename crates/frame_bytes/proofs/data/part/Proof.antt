@@ -6,21 +6,6 @@ use borrow.Author.Needs.{needs}
 use Rattle.frame_bytes.proofs.data.part.Statement.{statement}
 use Rattle.frame_bytes.proofs.data.part.Tie as tie
 
-min-requires : tie.Need-min-requires
-min-requires c κs = search needs
-
-sub-first : tie.Need-sub-first
-sub-first c = search needs
-
-part-first-start : tie.Need-part-first-start
-part-first-start c = search needs
-
-part-first-end : tie.Need-part-first-end
-part-first-end c = search needs
-
-first-requires : tie.Need-first-requires
-first-requires c κs = search needs
-
 returns : tie.Need-returns
 returns c =
     let s = c .before .before .before .before .args in
@@ -29,4 +14,4 @@ returns c =
 pub part-spec : {M : Type 1} → statement M
 part-spec =
     tie.close
-    (tie.spec min-requires sub-first part-first-start part-first-end first-requires returns)
+    (tie.spec (λ c κs. search needs) (λ c. search needs) (λ c. search needs) (λ c. search needs) (λ c κs. search needs) returns)

@@ -7,17 +7,8 @@ use borrow.Author.Needs.{needs}
 use Rattle.frame_bytes.proofs.data.put_data.Statement.{statement}
 use Rattle.frame_bytes.proofs.data.put_data.Tie as tie
 
-enum-told : tie.Need-enum-told
-enum-told c = search needs
-
-enum-known-d : tie.Need-enum-known-d
-enum-known-d c = search needs
-
 put-payload-requires : tie.Need-put-payload-requires
 put-payload-requires c κs = let at = c .before .before in omega (arith, data-size-is (at .before .before .before .before .args .input .now) (at .d .given .1))
-
-enum-known-d-2 : tie.Need-enum-known-d-2
-enum-known-d-2 c = search needs
 
 put-decoded-data-requires : tie.Need-put-decoded-data-requires
 put-decoded-data-requires c κs = let at = c .before .before in omega (arith, data-size-is (at .before .before .before .before .args .input .now) (at .d2 .given .1))
@@ -25,17 +16,11 @@ put-decoded-data-requires c κs = let at = c .before .before in omega (arith, da
 returns : tie.Need-returns
 returns c = data-told (c .before .before .before .before .args .input .now) (c .enum-told .given .1) (nothing _ _)
 
-same-length : tie.Need-same-length
-same-length c = search needs
-
 returns-2 : tie.Need-returns-2
 returns-2 c =
     let put = c .before .before in
     let at = put .before .before .before in
     data-told (at .before .before .before .before .args .input .now) (at .d .given .1) (put .put-payload .ensures)
-
-same-length-2 : tie.Need-same-length-2
-same-length-2 c = search needs
 
 returns-3 : tie.Need-returns-3
 returns-3 c =
@@ -47,13 +32,13 @@ pub put-data-spec : {M : Type 1} → statement M
 put-data-spec =
     tie.close
     (tie.spec
-    enum-told
-    enum-known-d
+    (λ c. search needs)
+    (λ c. search needs)
     put-payload-requires
-    enum-known-d-2
+    (λ c. search needs)
     put-decoded-data-requires
     returns
-    same-length
+    (λ c. search needs)
     returns-2
-    same-length-2
+    (λ c. search needs)
     returns-3)

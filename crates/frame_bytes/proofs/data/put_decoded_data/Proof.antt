@@ -13,20 +13,8 @@ use borrow.Author.Needs.{needs}
 use Rattle.frame_bytes.proofs.data.put_decoded_data.Statement.{statement}
 use Rattle.frame_bytes.proofs.data.put_decoded_data.Tie as tie
 
-part-requires : tie.Need-part-requires
-part-requires c κs = search needs
-
-decoded-len-requires : tie.Need-decoded-len-requires
-decoded-len-requires c κs = search needs
-
-put-u32-requires : tie.Need-put-u32-requires
-put-u32-requires c κs = search needs
-
 put-decoded-requires : tie.Need-put-decoded-requires
 put-decoded-requires c κs = omega (arith, ap (λ (l : List ℕ). length (decode l)) (c .before .before .before .before .before .before .part .ensures))
-
-same-length : tie.Need-same-length
-same-length c = search needs
 
 returns : tie.Need-returns
 returns c =
@@ -39,9 +27,9 @@ pub put-decoded-data-spec : {M : Type 1} → statement M
 put-decoded-data-spec =
     tie.close
     (tie.spec
-    part-requires
-    decoded-len-requires
-    put-u32-requires
+    (λ c κs. search needs)
+    (λ c κs. search needs)
+    (λ c κs. search needs)
     put-decoded-requires
-    same-length
+    (λ c. search needs)
     returns)

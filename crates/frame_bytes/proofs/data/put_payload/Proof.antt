@@ -11,17 +11,8 @@ use borrow.Author.Needs.{needs}
 use Rattle.frame_bytes.proofs.data.put_payload.Statement.{statement}
 use Rattle.frame_bytes.proofs.data.put_payload.Tie as tie
 
-part-requires : tie.Need-part-requires
-part-requires c κs = search needs
-
-put-u32-requires : tie.Need-put-u32-requires
-put-u32-requires c κs = search needs
-
 put-sized-requires : tie.Need-put-sized-requires
 put-sized-requires c κs = omega (arith, ap length (c .before .before .before .before .before .part .ensures))
-
-same-length : tie.Need-same-length
-same-length c = search needs
 
 returns : tie.Need-returns
 returns c =
@@ -33,4 +24,4 @@ returns c =
 
 pub put-payload-spec : {M : Type 1} → statement M
 put-payload-spec =
-    tie.close (tie.spec part-requires put-u32-requires put-sized-requires same-length returns)
+    tie.close (tie.spec (λ c κs. search needs) (λ c κs. search needs) put-sized-requires (λ c. search needs) returns)

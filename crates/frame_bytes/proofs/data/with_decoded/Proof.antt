@@ -10,21 +10,9 @@ use borrow.Author.Needs.{needs}
 use Rattle.frame_bytes.proofs.data.with_decoded.Statement.{statement}
 use Rattle.frame_bytes.proofs.data.with_decoded.Tie as tie
 
-part-requires : tie.Need-part-requires
-part-requires c κs = search needs
-
-sub-decoded-len : tie.Need-sub-decoded-len
-sub-decoded-len c = search needs
-
-decoded-len-requires : tie.Need-decoded-len-requires
-decoded-len-requires c κs = search needs
-
-add-result : tie.Need-add-result
-add-result c = search needs
-
 returns : tie.Need-returns
 returns c = omega (arith, ap (λ (l : List ℕ). length (decode l)) (c .before .part .ensures))
 
 pub with-decoded-spec : {M : Type 1} → statement M
 with-decoded-spec =
-    tie.close (tie.spec part-requires sub-decoded-len decoded-len-requires add-result returns)
+    tie.close (tie.spec (λ c κs. search needs) (λ c. search needs) (λ c κs. search needs) (λ c. search needs) returns)

@@ -7,21 +7,6 @@ use borrow.Author.Needs.{needs}
 use Rattle.frame_bytes.proofs.fields.put_bars.Statement.{statement}
 use Rattle.frame_bytes.proofs.fields.put_bars.Tie as tie
 
-put-rotation-requires : tie.Need-put-rotation-requires
-put-rotation-requires c κs = search needs
-
-put-i32-requires : tie.Need-put-i32-requires
-put-i32-requires c κs = search needs
-
-put-i32-requires-2 : tie.Need-put-i32-requires-2
-put-i32-requires-2 c κs = search needs
-
-put-flag-requires : tie.Need-put-flag-requires
-put-flag-requires c κs = search needs
-
-same-length : tie.Need-same-length
-same-length c = search needs
-
 returns : tie.Need-returns
 unfolding barBytes
 returns c =
@@ -39,9 +24,9 @@ pub put-bars-spec : {M : Type 1} → statement M
 put-bars-spec =
     tie.close
     (tie.spec
-    put-rotation-requires
-    put-i32-requires
-    put-i32-requires-2
-    put-flag-requires
-    same-length
+    (λ c κs. search needs)
+    (λ c κs. search needs)
+    (λ c κs. search needs)
+    (λ c κs. search needs)
+    (λ c. search needs)
     returns)

@@ -4,17 +4,8 @@ use borrow.Author.Needs.{needs}
 use Rattle.frame_bytes.proofs.fields.put_rotation.Statement.{statement}
 use Rattle.frame_bytes.proofs.fields.put_rotation.Tie as tie
 
-rotation-requires : tie.Need-rotation-requires
-rotation-requires c κs = search needs
-
-put-byte-requires : tie.Need-put-byte-requires
-put-byte-requires c κs = search needs
-
-same-length : tie.Need-same-length
-same-length c = search needs
-
 returns : tie.Need-returns
 returns c = rw (c .before .before .before .rotation .ensures) at (c .before .before .put-byte .ensures)
 
 pub put-rotation-spec : {M : Type 1} → statement M
-put-rotation-spec = tie.close (tie.spec rotation-requires put-byte-requires same-length returns)
+put-rotation-spec = tie.close (tie.spec (λ c κs. search needs) (λ c κs. search needs) (λ c. search needs) returns)

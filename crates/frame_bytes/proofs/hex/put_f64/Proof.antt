@@ -7,18 +7,6 @@ use borrow.Author.Needs.{needs}
 use Rattle.frame_bytes.proofs.hex.put_f64.Statement.{statement}
 use Rattle.frame_bytes.proofs.hex.put_f64.Tie as tie
 
-bits-requires : tie.Need-bits-requires
-bits-requires c κs = search needs
-
-put-u32-requires : tie.Need-put-u32-requires
-put-u32-requires c κs = search needs
-
-put-u32-requires-2 : tie.Need-put-u32-requires-2
-put-u32-requires-2 c κs = search needs
-
-same-length : tie.Need-same-length
-same-length c = search needs
-
 returns : tie.Need-returns
 returns c =
     let l = c .before .before in
@@ -27,4 +15,4 @@ returns c =
 
 pub put-f64-spec : {M : Type 1} → statement M
 put-f64-spec =
-    tie.close (tie.spec bits-requires put-u32-requires put-u32-requires-2 same-length returns)
+    tie.close (tie.spec (λ c κs. search needs) (λ c κs. search needs) (λ c κs. search needs) (λ c. search needs) returns)

@@ -8,22 +8,10 @@ use borrow.Author.Needs.{needs}
 use Rattle.frame_bytes.proofs.hex.put_i32.Statement.{statement}
 use Rattle.frame_bytes.proofs.hex.put_i32.Tie as tie
 
-bits-requires : tie.Need-bits-requires
-bits-requires c κs = search needs
-
-cast-put-u32 : tie.Need-cast-put-u32
-cast-put-u32 c = search needs
-
-put-u32-requires : tie.Need-put-u32-requires
-put-u32-requires c κs = search needs
-
-same-length : tie.Need-same-length
-same-length c = search needs
-
 returns : tie.Need-returns
 returns c =
     let b = c .before .before .before .before in
     retold (ap be32 (rw (toZ-ofZ (b .before .before .fits .v)) at (b .bits .ensures))) (c .before .before .put-u32 .ensures)
 
 pub put-i32-spec : {M : Type 1} → statement M
-put-i32-spec = tie.close (tie.spec bits-requires cast-put-u32 put-u32-requires same-length returns)
+put-i32-spec = tie.close (tie.spec (λ c κs. search needs) (λ c. search needs) (λ c κs. search needs) (λ c. search needs) returns)

@@ -9,26 +9,14 @@ use borrow.Author.Needs.{needs}
 use Rattle.frame_bytes.proofs.hex.put_part.Statement.{statement}
 use Rattle.frame_bytes.proofs.hex.put_part.Tie as tie
 
-is-whole-requires : tie.Need-is-whole-requires
-is-whole-requires c κs = search needs
-
 put-bytes-requires : tie.Need-put-bytes-requires
 put-bytes-requires c κs = let e = ap length (shown-whole (c .before .before .before .before .before .args .p .now) (sym (c .before .before .is-whole .ensures) ∙ c .before .if1 .taken)) in omega arith
-
-slice-aggregate-put-bytes : tie.Need-slice-aggregate-put-bytes
-slice-aggregate-put-bytes c = search needs
 
 put-bytes-requires-2 : tie.Need-put-bytes-requires-2
 put-bytes-requires-2 c κs = let e = ap length (shown-part (c .before .before .before .before .before .before .args .p .now) (sym (c .before .before .before .is-whole .ensures) ∙ c .before .before .if1 .left)) in omega arith
 
-same-length : tie.Need-same-length
-same-length c = search needs
-
 returns : tie.Need-returns
 returns c = same (sym (shown-whole (c .before .before .before .before .before .before .before .before .args .p .now) (sym (c .before .before .before .before .before .is-whole .ensures) ∙ c .before .before .before .before .if1 .taken))) (c .before .before .put-bytes .ensures)
-
-same-length-2 : tie.Need-same-length-2
-same-length-2 c = search needs
 
 returns-2 : tie.Need-returns-2
 returns-2 c = same (sym (shown-part (c .before .before .before .before .before .before .before .before .before .args .p .now) (sym (c .before .before .before .before .before .before .is-whole .ensures) ∙ c .before .before .before .before .before .if1 .left))) (c .before .before .put-bytes2 .ensures)
@@ -37,11 +25,11 @@ pub put-part-spec : {M : Type 1} → statement M
 put-part-spec =
     tie.close
     (tie.spec
-    is-whole-requires
+    (λ c κs. search needs)
     put-bytes-requires
-    slice-aggregate-put-bytes
+    (λ c. search needs)
     put-bytes-requires-2
-    same-length
+    (λ c. search needs)
     returns
-    same-length-2
+    (λ c. search needs)
     returns-2)

@@ -5,17 +5,8 @@ use borrow.Author.Needs.{needs}
 use Rattle.frame_bytes.proofs.hex.put_sized.Statement.{statement}
 use Rattle.frame_bytes.proofs.hex.put_sized.Tie as tie
 
-put-u32-requires : tie.Need-put-u32-requires
-put-u32-requires c κs = search needs
-
-put-bytes-requires : tie.Need-put-bytes-requires
-put-bytes-requires c κs = search needs
-
-same-length : tie.Need-same-length
-same-length c = search needs
-
 returns : tie.Need-returns
 returns c = then (c .before .before .before .before .before .before .put-u32 .ensures) (c .before .before .put-bytes .ensures)
 
 pub put-sized-spec : {M : Type 1} → statement M
-put-sized-spec = tie.close (tie.spec put-u32-requires put-bytes-requires same-length returns)
+put-sized-spec = tie.close (tie.spec (λ c κs. search needs) (λ c κs. search needs) (λ c. search needs) returns)

@@ -6,18 +6,6 @@ use borrow.Author.Needs.{needs}
 use Rattle.frame_digits.proofs.frame.frame_len.Statement.{statement}
 use Rattle.frame_digits.proofs.frame.frame_len.Tie as tie
 
-plain-of-requires : tie.Need-plain-of-requires
-plain-of-requires c κs = search needs
-
-fields-len-requires : tie.Need-fields-len-requires
-fields-len-requires c κs = search needs
-
-add-with-data : tie.Need-add-with-data
-add-with-data c = search needs
-
-with-data-requires : tie.Need-with-data-requires
-with-data-requires c κs = search needs
-
 returns : tie.Need-returns
 returns c =
     let of = c .before .before in
@@ -27,4 +15,4 @@ returns c =
 pub frame-len-spec : {M : Type 1} → statement M
 frame-len-spec =
     tie.close
-    (tie.spec plain-of-requires fields-len-requires add-with-data with-data-requires returns)
+    (tie.spec (λ c κs. search needs) (λ c κs. search needs) (λ c. search needs) (λ c κs. search needs) returns)

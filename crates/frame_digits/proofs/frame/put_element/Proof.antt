@@ -7,9 +7,6 @@ use borrow.Author.Needs.{needs}
 use Rattle.frame_digits.proofs.frame.put_element.Statement.{statement}
 use Rattle.frame_digits.proofs.frame.put_element.Tie as tie
 
-plain-of-requires : tie.Need-plain-of-requires
-plain-of-requires c κs = search needs
-
 put-head-requires : tie.Need-put-head-requires
 put-head-requires c κs =
     let of = c .before .before in
@@ -31,9 +28,6 @@ put-data-requires c κs =
     let a = of .before .before .before .args in
     omega (arith, frame-size (a .input .now) (a .e) (of .plain-of .ensures))
 
-same-length : tie.Need-same-length
-same-length c = search needs
-
 returns : tie.Need-returns
 returns c =
     let behind = c .before .before in
@@ -48,9 +42,9 @@ pub put-element-spec : {M : Type 1} → statement M
 put-element-spec =
     tie.close
     (tie.spec
-    plain-of-requires
+    (λ c κs. search needs)
     put-head-requires
     put-fields-requires
     put-data-requires
-    same-length
+    (λ c. search needs)
     returns)

@@ -14,9 +14,6 @@ put-element-requires c κs = let a = c .before .before .before .args in omega (a
 put-lf-requires : tie.Need-put-lf-requires
 put-lf-requires c κs = let a = c .before .before .before .before .before .before .before .args in omega (arith, length-line (frameOf (a .input .now) (a .e)))
 
-same-length : tie.Need-same-length
-same-length c = search needs
-
 returns : tie.Need-returns
 returns c = line (c .before .before .before .before .before .before .put-element .ensures) (c .before .before .put-lf .ensures)
 
@@ -26,5 +23,5 @@ put-frame-spec =
     (tie.spec
     put-element-requires
     put-lf-requires
-    same-length
+    (λ c. search needs)
     returns)

@@ -6,18 +6,6 @@ use borrow.Author.Needs.{needs}
 use Rattle.frame_digits.proofs.kinds.put_128.Statement.{statement}
 use Rattle.frame_digits.proofs.kinds.put_128.Tie as tie
 
-put-bars-requires : tie.Need-put-bars-requires
-put-bars-requires c κs = search needs
-
-mode-requires : tie.Need-mode-requires
-mode-requires c κs = search needs
-
-put-byte-requires : tie.Need-put-byte-requires
-put-byte-requires c κs = search needs
-
-same-length : tie.Need-same-length
-same-length c = search needs
-
 returns : tie.Need-returns
 unfolding fieldBytes
 returns c =
@@ -28,4 +16,4 @@ returns c =
 
 pub put-128-spec : {M : Type 1} → statement M
 put-128-spec =
-    tie.close (tie.spec put-bars-requires mode-requires put-byte-requires same-length returns)
+    tie.close (tie.spec (λ c κs. search needs) (λ c κs. search needs) (λ c κs. search needs) (λ c. search needs) returns)

@@ -7,15 +7,6 @@ use borrow.Author.Needs.{needs}
 use Rattle.frame_digits.proofs.kinds.put_aztec.Statement.{statement}
 use Rattle.frame_digits.proofs.kinds.put_aztec.Tie as tie
 
-put-i32-requires : tie.Need-put-i32-requires
-put-i32-requires c κs = search needs
-
-put-i32-requires-2 : tie.Need-put-i32-requires-2
-put-i32-requires-2 c κs = search needs
-
-same-length : tie.Need-same-length
-same-length c = search needs
-
 returns : tie.Need-returns
 unfolding fieldBytes
 returns c =
@@ -26,4 +17,4 @@ returns c =
     (rw (back32 (b .size) (size .before .struct-told2 .given .1 .0 .1)) at (size .put-i322 .ensures))
 
 pub put-aztec-spec : {M : Type 1} → statement M
-put-aztec-spec = tie.close (tie.spec put-i32-requires put-i32-requires-2 same-length returns)
+put-aztec-spec = tie.close (tie.spec (λ c κs. search needs) (λ c κs. search needs) (λ c. search needs) returns)

@@ -7,18 +7,6 @@ use borrow.Author.Needs.{needs}
 use Rattle.frame_digits.proofs.kinds.put_datamatrix.Statement.{statement}
 use Rattle.frame_digits.proofs.kinds.put_datamatrix.Tie as tie
 
-put-i32-requires : tie.Need-put-i32-requires
-put-i32-requires c κs = search needs
-
-put-i32-requires-2 : tie.Need-put-i32-requires-2
-put-i32-requires-2 c κs = search needs
-
-put-i32-requires-3 : tie.Need-put-i32-requires-3
-put-i32-requires-3 c κs = search needs
-
-same-length : tie.Need-same-length
-same-length c = search needs
-
 returns : tie.Need-returns
 unfolding fieldBytes
 returns c =
@@ -32,4 +20,4 @@ returns c =
 
 pub put-datamatrix-spec : {M : Type 1} → statement M
 put-datamatrix-spec =
-    tie.close (tie.spec put-i32-requires put-i32-requires-2 put-i32-requires-3 same-length returns)
+    tie.close (tie.spec (λ c κs. search needs) (λ c κs. search needs) (λ c κs. search needs) (λ c. search needs) returns)

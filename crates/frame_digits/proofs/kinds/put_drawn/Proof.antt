@@ -7,21 +7,6 @@ use borrow.Author.Needs.{needs}
 use Rattle.frame_digits.proofs.kinds.put_drawn.Statement.{statement}
 use Rattle.frame_digits.proofs.kinds.put_drawn.Tie as tie
 
-put-i32-requires : tie.Need-put-i32-requires
-put-i32-requires c κs = search needs
-
-put-i32-requires-2 : tie.Need-put-i32-requires-2
-put-i32-requires-2 c κs = search needs
-
-put-i32-requires-3 : tie.Need-put-i32-requires-3
-put-i32-requires-3 c κs = search needs
-
-put-byte-requires : tie.Need-put-byte-requires
-put-byte-requires c κs = search needs
-
-same-length : tie.Need-same-length
-same-length c = search needs
-
 returns : tie.Need-returns
 unfolding extentBytes
 returns c =
@@ -39,9 +24,9 @@ pub put-drawn-spec : {M : Type 1} → statement M
 put-drawn-spec =
     tie.close
     (tie.spec
-    put-i32-requires
-    put-i32-requires-2
-    put-i32-requires-3
-    put-byte-requires
-    same-length
+    (λ c κs. search needs)
+    (λ c κs. search needs)
+    (λ c κs. search needs)
+    (λ c κs. search needs)
+    (λ c. search needs)
     returns)

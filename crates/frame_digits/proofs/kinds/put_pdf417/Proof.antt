@@ -7,21 +7,6 @@ use borrow.Author.Needs.{needs}
 use Rattle.frame_digits.proofs.kinds.put_pdf417.Statement.{statement}
 use Rattle.frame_digits.proofs.kinds.put_pdf417.Tie as tie
 
-put-rotation-requires : tie.Need-put-rotation-requires
-put-rotation-requires c κs = search needs
-
-put-rows-requires : tie.Need-put-rows-requires
-put-rows-requires c κs = search needs
-
-put-flag-requires : tie.Need-put-flag-requires
-put-flag-requires c κs = search needs
-
-put-i32-requires : tie.Need-put-i32-requires
-put-i32-requires c κs = search needs
-
-same-length : tie.Need-same-length
-same-length c = search needs
-
 returns : tie.Need-returns
 unfolding fieldBytes
 returns c =
@@ -39,9 +24,9 @@ pub put-pdf417-spec : {M : Type 1} → statement M
 put-pdf417-spec =
     tie.close
     (tie.spec
-    put-rotation-requires
-    put-rows-requires
-    put-flag-requires
-    put-i32-requires
-    same-length
+    (λ c κs. search needs)
+    (λ c κs. search needs)
+    (λ c κs. search needs)
+    (λ c κs. search needs)
+    (λ c. search needs)
     returns)

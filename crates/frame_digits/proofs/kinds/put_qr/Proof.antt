@@ -7,18 +7,6 @@ use borrow.Author.Needs.{needs}
 use Rattle.frame_digits.proofs.kinds.put_qr.Statement.{statement}
 use Rattle.frame_digits.proofs.kinds.put_qr.Tie as tie
 
-put-i32-requires : tie.Need-put-i32-requires
-put-i32-requires c κs = search needs
-
-level-requires : tie.Need-level-requires
-level-requires c κs = search needs
-
-put-byte-requires : tie.Need-put-byte-requires
-put-byte-requires c κs = search needs
-
-same-length : tie.Need-same-length
-same-length c = search needs
-
 returns : tie.Need-returns
 unfolding fieldBytes
 returns c =
@@ -30,4 +18,4 @@ returns c =
 
 pub put-qr-spec : {M : Type 1} → statement M
 put-qr-spec =
-    tie.close (tie.spec put-i32-requires level-requires put-byte-requires same-length returns)
+    tie.close (tie.spec (λ c κs. search needs) (λ c κs. search needs) (λ c κs. search needs) (λ c. search needs) returns)

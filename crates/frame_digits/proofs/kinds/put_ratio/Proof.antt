@@ -7,21 +7,6 @@ use borrow.Author.Needs.{needs}
 use Rattle.frame_digits.proofs.kinds.put_ratio.Statement.{statement}
 use Rattle.frame_digits.proofs.kinds.put_ratio.Tie as tie
 
-put-bars-requires : tie.Need-put-bars-requires
-put-bars-requires c κs = search needs
-
-put-flag-requires : tie.Need-put-flag-requires
-put-flag-requires c κs = search needs
-
-put-i32-requires : tie.Need-put-i32-requires
-put-i32-requires c κs = search needs
-
-put-f64-requires : tie.Need-put-f64-requires
-put-f64-requires c κs = search needs
-
-same-length : tie.Need-same-length
-same-length c = search needs
-
 returns : tie.Need-returns
 unfolding fieldBytes
 returns c =
@@ -36,4 +21,4 @@ returns c =
 
 pub put-ratio-spec : {M : Type 1} → statement M
 put-ratio-spec =
-    tie.close (tie.spec put-bars-requires put-flag-requires put-i32-requires put-f64-requires same-length returns)
+    tie.close (tie.spec (λ c κs. search needs) (λ c κs. search needs) (λ c κs. search needs) (λ c κs. search needs) (λ c. search needs) returns)

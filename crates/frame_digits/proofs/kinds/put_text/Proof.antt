@@ -6,24 +6,6 @@ use borrow.Author.Needs.{needs}
 use Rattle.frame_digits.proofs.kinds.put_text.Statement.{statement}
 use Rattle.frame_digits.proofs.kinds.put_text.Tie as tie
 
-put-rotation-requires : tie.Need-put-rotation-requires
-put-rotation-requires c κs = search needs
-
-put-flag-requires : tie.Need-put-flag-requires
-put-flag-requires c κs = search needs
-
-put-scale-requires : tie.Need-put-scale-requires
-put-scale-requires c κs = search needs
-
-put-f64-requires : tie.Need-put-f64-requires
-put-f64-requires c κs = search needs
-
-put-f64-requires-2 : tie.Need-put-f64-requires-2
-put-f64-requires-2 c κs = search needs
-
-same-length : tie.Need-same-length
-same-length c = search needs
-
 returns : tie.Need-returns
 unfolding fieldBytes
 returns c =
@@ -42,10 +24,10 @@ pub put-text-spec : {M : Type 1} → statement M
 put-text-spec =
     tie.close
     (tie.spec
-    put-rotation-requires
-    put-flag-requires
-    put-scale-requires
-    put-f64-requires
-    put-f64-requires-2
-    same-length
+    (λ c κs. search needs)
+    (λ c κs. search needs)
+    (λ c κs. search needs)
+    (λ c κs. search needs)
+    (λ c κs. search needs)
+    (λ c. search needs)
     returns)

@@ -23,25 +23,10 @@ told d b k =
 returns : tie.Need-returns
 returns c = glance-none (c .before .before .args .rest .now) (c .if1 .taken)
 
-shared-slice-read-b : tie.Need-shared-slice-read-b
-shared-slice-read-b c = search needs
-
-tells-requires : tie.Need-tells-requires
-tells-requires c κs = search needs
-
-find-requires : tie.Need-find-requires
-find-requires c κs = search needs
-
-line-size-requires : tie.Need-line-size-requires
-line-size-requires c κs = search needs
-
 slice-aggregate-draws : tie.Need-slice-aggregate-draws
 slice-aggregate-draws c =
     let f = c .before .before in
     sym (length-take-le (f .find .result) (f .before .before .before .before .before .before .args .rest .now) (f .find .ensures .fits))
-
-draws-requires : tie.Need-draws-requires
-draws-requires c κs = search needs
 
 returns-2 : tie.Need-returns-2
 returns-2 c = told (c .before) true (c .if3 .taken)
@@ -57,12 +42,12 @@ glance-spec =
     tie.close
     (tie.spec
     returns
-    shared-slice-read-b
-    tells-requires
-    find-requires
-    line-size-requires
+    (λ c. search needs)
+    (λ c κs. search needs)
+    (λ c κs. search needs)
+    (λ c κs. search needs)
     slice-aggregate-draws
-    draws-requires
+    (λ c κs. search needs)
     returns-2
     returns-3
     returns-4)

@@ -18,31 +18,10 @@ cut d =
     let f = d .before .before .before in
     d .before-last .ensures ∙ ap (beforeLast 34) (after-here 34 (f .before .before .args .t .now) (f .find .result) (f .find .ensures .is))
 
-find-requires : tie.Need-find-requires
-find-requires c κs = search needs
-
-sub-if1 : tie.Need-sub-if1
-sub-if1 c = search needs
-
 returns : tie.Need-returns
 returns c =
     let t = c .before .before .before .args .t .now in
     simp (eq-eqb (length (quoted t)) 0 (quoted-none t (omega (arith, c .before .find .ensures .is))))
-
-add-m : tie.Need-add-m
-add-m c = search needs
-
-sub-before-last : tie.Need-sub-before-last
-sub-before-last c = search needs
-
-part-before-last-start : tie.Need-part-before-last-start
-part-before-last-start c = search needs
-
-part-before-last-end : tie.Need-part-before-last-end
-part-before-last-end c = search needs
-
-before-last-requires : tie.Need-before-last-requires
-before-last-requires c κs = search needs
 
 returns-2 : tie.Need-returns-2
 returns-2 c = ap (λ t. not (eqb (length t) 0)) (cut c)
@@ -51,12 +30,12 @@ pub has-data-spec : {M : Type 1} → statement M
 has-data-spec =
     tie.close
     (tie.spec
-    find-requires
-    sub-if1
+    (λ c κs. search needs)
+    (λ c. search needs)
     returns
-    add-m
-    sub-before-last
-    part-before-last-start
-    part-before-last-end
-    before-last-requires
+    (λ c. search needs)
+    (λ c. search needs)
+    (λ c. search needs)
+    (λ c. search needs)
+    (λ c κs. search needs)
     returns-2)

@@ -10,11 +10,8 @@ use Rattle.label_index.proofs.labels.begin.Tie as tie
 abbrev at-entry : LabelEntry → Cursor
 at-entry e = record { entry = e; reference = origin }
 
-no-entry-requires : tie.Need-no-entry-requires
-no-entry-requires c κs = search needs
-
 returns : tie.Need-returns
 returns c = ap at-entry (c .no-entry .ensures)
 
 pub begin-spec : {M : Type 1} → statement M
-begin-spec = tie.close (tie.spec no-entry-requires returns)
+begin-spec = tie.close (tie.spec (λ c κs. search needs) returns)

@@ -13,15 +13,6 @@ use Rattle.label_index.proofs.labels.plan.Tie as tie
 told : (d : tie.After-count-labels) (q : Indexed) → d .count-labels .result ≡ q → countedOf q ≡ answerOf (indexingOf (d .before .before .args .input .now))
 told d q k = ap countedOf (sym k) ∙ d .count-labels .ensures
 
-count-labels-requires : tie.Need-count-labels-requires
-count-labels-requires c κs = search needs
-
-enum-known-k : tie.Need-enum-known-k
-enum-known-k c = search needs
-
-enum-known-n : tie.Need-enum-known-n
-enum-known-n c = search needs
-
 returns : tie.Need-returns
 returns c =
     let d = c .before .before .before .before in
@@ -47,4 +38,4 @@ returns-3 c =
     record { answers = sym (e .0); makes = sym (e .1) }
 
 pub plan-spec : {M : Type 1} → statement M
-plan-spec = tie.close (tie.spec count-labels-requires enum-known-k enum-known-n returns returns-2 returns-3)
+plan-spec = tie.close (tie.spec (λ c κs. search needs) (λ c. search needs) (λ c. search needs) returns returns-2 returns-3)

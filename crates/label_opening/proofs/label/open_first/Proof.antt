@@ -15,15 +15,6 @@ told : (d : tie.After-measure-first) (q : Found) → d .measure-first .result �
     → Finds (d .before .before .before .args .input .now) (firstDue (d .before .before .before .args .input .now) (d .before .before .before .args .st) (d .before .before .before .args .i)) q
 told d q e = let a = d .before .before .before .args in subst (Finds (a .input .now) (firstDue (a .input .now) (a .st) (a .i))) e (d .measure-first .ensures)
 
-measure-first-requires : tie.Need-measure-first-requires
-measure-first-requires c κs = search needs
-
-enum-known-k : tie.Need-enum-known-k
-enum-known-k c = search needs
-
-enum-known-first : tie.Need-enum-known-first
-enum-known-first c = search needs
-
 returns : tie.Need-returns
 returns c =
     let m = c .before .before .before .before in
@@ -43,9 +34,6 @@ returns-2 c =
     let g = c .before .k .given in
     fills-denied (m .before .before .before .args .out .now) (told m (NoLabel (g .0 .0) (g .0 .1 .0)) (g .1))
 
-same-length : tie.Need-same-length
-same-length c = search needs
-
 returns-3 : tie.Need-returns-3
 returns-3 c =
     let p = c .before .before in
@@ -59,11 +47,11 @@ pub open-first-spec : {M : Type 1} → statement M
 open-first-spec =
     tie.close
     (tie.spec
-    measure-first-requires
-    enum-known-k
-    enum-known-first
+    (λ c κs. search needs)
+    (λ c. search needs)
+    (λ c. search needs)
     returns
     put-label-requires
     returns-2
-    same-length
+    (λ c. search needs)
     returns-3)

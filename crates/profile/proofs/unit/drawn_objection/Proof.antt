@@ -6,30 +6,6 @@ use borrow.Author.Needs.{needs}
 use Rattle.profile.proofs.unit.drawn_objection.Statement.{statement}
 use Rattle.profile.proofs.unit.drawn_objection.Tie as tie
 
-tail-two-requires : tie.Need-tail-two-requires
-tail-two-requires c κs = search needs
-
-sides-requires : tie.Need-sides-requires
-sides-requires c κs = search needs
-
-tail-two-requires-2 : tie.Need-tail-two-requires-2
-tail-two-requires-2 c κs = search needs
-
-sides-requires-2 : tie.Need-sides-requires-2
-sides-requires-2 c κs = search needs
-
-tail-two-requires-3 : tie.Need-tail-two-requires-3
-tail-two-requires-3 c κs = search needs
-
-sides-requires-3 : tie.Need-sides-requires-3
-sides-requires-3 c κs = search needs
-
-tail-two-requires-4 : tie.Need-tail-two-requires-4
-tail-two-requires-4 c κs = search needs
-
-corners-requires : tie.Need-corners-requires
-corners-requires c κs = search needs
-
 returns : tie.Need-returns
 unfolding commandOf isReference isPrint
 returns c = rw (c .before .before .match .keys1) (simp (c .before .tail-two .ensures) at (c .sides .ensures))
@@ -57,14 +33,14 @@ pub drawn-objection-spec : {M : Type 1} → statement M
 drawn-objection-spec =
     tie.close
     (tie.spec
-    tail-two-requires
-    sides-requires
-    tail-two-requires-2
-    sides-requires-2
-    tail-two-requires-3
-    sides-requires-3
-    tail-two-requires-4
-    corners-requires
+    (λ c κs. search needs)
+    (λ c κs. search needs)
+    (λ c κs. search needs)
+    (λ c κs. search needs)
+    (λ c κs. search needs)
+    (λ c κs. search needs)
+    (λ c κs. search needs)
+    (λ c κs. search needs)
     returns
     returns-2
     returns-3

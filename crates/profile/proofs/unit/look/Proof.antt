@@ -14,53 +14,8 @@ use Rattle.profile.proofs.unit.look.Tie as tie
 is : (d : tie.After-gw-span) (o : Graphic) → d .gw-span .result ≡ o → gwSpan (d .before .before .args .rest .now) ≡ o
 is d o e = sym (d .gw-span .ensures) ∙ e
 
-gw-span-requires : tie.Need-gw-span-requires
-gw-span-requires c κs = search needs
-
-enum-told : tie.Need-enum-told
-enum-told c = search needs
-
-find-requires : tie.Need-find-requires
-find-requires c κs = search needs
-
 slice-aggregate-line-objection : tie.Need-slice-aggregate-line-objection
 slice-aggregate-line-objection c = let f = c .before in sym (length-take-le (f .find .result) (f .before .before .before .before .before .args .rest .now) (f .find .ensures .fits))
-
-line-objection-requires : tie.Need-line-objection-requires
-line-objection-requires c κs = search needs
-
-line-size-requires : tie.Need-line-size-requires
-line-size-requires c κs = search needs
-
-sized-requires : tie.Need-sized-requires
-sized-requires c κs = search needs
-
-enum-told-2 : tie.Need-enum-told-2
-enum-told-2 c = search needs
-
-find-requires-2 : tie.Need-find-requires-2
-find-requires-2 c κs = search needs
-
-line-size-requires-2 : tie.Need-line-size-requires-2
-line-size-requires-2 c κs = search needs
-
-enum-known-g : tie.Need-enum-known-g
-enum-known-g c = search needs
-
-slice-aggregate-by-rules : tie.Need-slice-aggregate-by-rules
-slice-aggregate-by-rules c = search needs
-
-trim-line-start-requires : tie.Need-trim-line-start-requires
-trim-line-start-requires c κs = search needs
-
-tail-two-requires : tie.Need-tail-two-requires
-tail-two-requires c κs = search needs
-
-by-rules-requires : tie.Need-by-rules-requires
-by-rules-requires c κs = search needs
-
-sized-requires-2 : tie.Need-sized-requires-2
-sized-requires-2 c κs = search needs
 
 returns : tie.Need-returns
 unfolding objection unitSize
@@ -89,22 +44,22 @@ pub look-spec : {M : Type 1} → statement M
 look-spec =
     tie.close
     (tie.spec
-    gw-span-requires
-    enum-told
-    find-requires
+    (λ c κs. search needs)
+    (λ c. search needs)
+    (λ c κs. search needs)
     slice-aggregate-line-objection
-    line-objection-requires
-    line-size-requires
-    sized-requires
-    enum-told-2
-    find-requires-2
-    line-size-requires-2
-    enum-known-g
-    slice-aggregate-by-rules
-    trim-line-start-requires
-    tail-two-requires
-    by-rules-requires
-    sized-requires-2
+    (λ c κs. search needs)
+    (λ c κs. search needs)
+    (λ c κs. search needs)
+    (λ c. search needs)
+    (λ c κs. search needs)
+    (λ c κs. search needs)
+    (λ c. search needs)
+    (λ c. search needs)
+    (λ c κs. search needs)
+    (λ c κs. search needs)
+    (λ c κs. search needs)
+    (λ c κs. search needs)
     returns
     returns-2
     returns-3)

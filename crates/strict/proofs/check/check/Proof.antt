@@ -11,14 +11,8 @@ use Rattle.strict.proofs.check.check.Tie as tie
 abbrev input-of : tie.After-plain → List ℕ
 input-of d = d .before .before .args .input .now
 
-plain-requires : tie.Need-plain-requires
-plain-requires c κs = search needs
-
 returns : tie.Need-returns
 returns c = let d = c .before in long-checks (input-of d) (d .plain .result) (d .plain .ensures) (c .if1 .taken)
-
-objected-requires : tie.Need-objected-requires
-objected-requires c κs = search needs
 
 returns-2 : tie.Need-returns-2
 returns-2 c =
@@ -48,9 +42,9 @@ pub check-spec : {M : Type 1} → statement M
 check-spec =
     tie.close
     (tie.spec
-    plain-requires
+    (λ c κs. search needs)
     returns
-    objected-requires
+    (λ c κs. search needs)
     returns-2
     add-objected
     objected-requires-2

@@ -23,20 +23,11 @@ input-of d = d .before .before .before .args .input .now
 own : (d : tie.After-check) (n : ℕ) → 0 < n → d .check .result .number ≡ n → strictDueOf (input-of d) ≡ denied n (d .check .result .place)
 own d n h e = own-due (input-of d) n h (sym (ap (λ (c : Checked). c .number) (d .check .ensures)) ∙ e) ∙ ap (λ (c : Checked). denied n (c .place)) (sym (d .check .ensures))
 
-check-requires : tie.Need-check-requires
-check-requires c κs = search needs
-
 returns : tie.Need-returns
 returns c = fills-denied (c .before .before .before .before .args .out .now) (own (c .before) 17 (omega arith) (c .if1 .taken))
 
 returns-2 : tie.Need-returns-2
 returns-2 c = fills-denied (c .before .before .before .before .before .args .out .now) (own (c .before .before) 18 (omega arith) (c .if2 .taken))
-
-list-requires : tie.Need-list-requires
-list-requires c κs = search needs
-
-same-length : tie.Need-same-length
-same-length c = search needs
 
 not-own : (d : tie.After-check) → (d .check .result .number ≡ 17 → ⊥) → (d .check .result .number ≡ 18 → ⊥) → Own (checkedOf (input-of d) .number) → ⊥
 not-own d a b (inl e) = a (ap (λ (c : Checked). c .number) (d .check .ensures) ∙ e)
@@ -55,4 +46,4 @@ returns-3 c =
 
 pub strict-list-spec : {M : Type 1} → statement M
 strict-list-spec =
-    tie.close (tie.spec check-requires returns returns-2 list-requires same-length returns-3)
+    tie.close (tie.spec (λ c κs. search needs) returns returns-2 (λ c κs. search needs) (λ c. search needs) returns-3)

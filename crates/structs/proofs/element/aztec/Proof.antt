@@ -3,11 +3,8 @@ use borrow.Author.Needs.{needs}
 use Rattle.structs.proofs.element.aztec.Statement.{statement}
 use Rattle.structs.proofs.element.aztec.Tie as tie
 
-placed-requires : tie.Need-placed-requires
-placed-requires c κs = search needs
-
 returns : tie.Need-returns
 returns c = rw (c .before .before .placed .ensures) (search needs)
 
 pub aztec-spec : {M : Type 1} → statement M
-aztec-spec = tie.close (tie.spec placed-requires returns)
+aztec-spec = tie.close (tie.spec (λ c κs. search needs) returns)

@@ -3,14 +3,8 @@ use borrow.Author.Needs.{needs}
 use Rattle.structs.proofs.element.diagonal.Statement.{statement}
 use Rattle.structs.proofs.element.diagonal.Tie as tie
 
-placed-requires : tie.Need-placed-requires
-placed-requires c κs = search needs
-
-flag-requires : tie.Need-flag-requires
-flag-requires c κs = search needs
-
 returns : tie.Need-returns
 returns c = rw (c .before .before .before .before .placed .ensures, c .before .before .before .flag .ensures) (search needs)
 
 pub diagonal-spec : {M : Type 1} → statement M
-diagonal-spec = tie.close (tie.spec placed-requires flag-requires returns)
+diagonal-spec = tie.close (tie.spec (λ c κs. search needs) (λ c κs. search needs) returns)

@@ -3,11 +3,8 @@ use borrow.Author.Needs.{needs}
 use Rattle.structs.proofs.element.ean13.Statement.{statement}
 use Rattle.structs.proofs.element.ean13.Tie as tie
 
-barred-requires : tie.Need-barred-requires
-barred-requires c κs = search needs
-
 returns : tie.Need-returns
 returns c = rw (c .before .before .barred .ensures) (search needs)
 
 pub ean13-spec : {M : Type 1} → statement M
-ean13-spec = tie.close (tie.spec barred-requires returns)
+ean13-spec = tie.close (tie.spec (λ c κs. search needs) returns)

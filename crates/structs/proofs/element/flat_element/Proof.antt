@@ -3,102 +3,6 @@ use borrow.Author.Needs.{needs}
 use Rattle.structs.proofs.element.flat_element.Statement.{statement}
 use Rattle.structs.proofs.element.flat_element.Tie as tie
 
-enum-known-e : tie.Need-enum-known-e
-enum-known-e c = search needs
-
-text-field-requires : tie.Need-text-field-requires
-text-field-requires c κs = search needs
-
-enum-known-e-2 : tie.Need-enum-known-e-2
-enum-known-e-2 c = search needs
-
-graphic-box-requires : tie.Need-graphic-box-requires
-graphic-box-requires c κs = search needs
-
-enum-known-e-3 : tie.Need-enum-known-e-3
-enum-known-e-3 c = search needs
-
-diagonal-requires : tie.Need-diagonal-requires
-diagonal-requires c κs = search needs
-
-enum-known-e-4 : tie.Need-enum-known-e-4
-enum-known-e-4 c = search needs
-
-graphic-field-requires : tie.Need-graphic-field-requires
-graphic-field-requires c κs = search needs
-
-enum-known-e-5 : tie.Need-enum-known-e-5
-enum-known-e-5 c = search needs
-
-code-128-requires : tie.Need-code-128-requires
-code-128-requires c κs = search needs
-
-enum-known-e-6 : tie.Need-enum-known-e-6
-enum-known-e-6 c = search needs
-
-ean13-requires : tie.Need-ean13-requires
-ean13-requires c κs = search needs
-
-enum-known-e-7 : tie.Need-enum-known-e-7
-enum-known-e-7 c = search needs
-
-ean8-requires : tie.Need-ean8-requires
-ean8-requires c κs = search needs
-
-enum-known-e-8 : tie.Need-enum-known-e-8
-enum-known-e-8 c = search needs
-
-upca-requires : tie.Need-upca-requires
-upca-requires c κs = search needs
-
-enum-known-e-9 : tie.Need-enum-known-e-9
-enum-known-e-9 c = search needs
-
-interleaved-requires : tie.Need-interleaved-requires
-interleaved-requires c κs = search needs
-
-enum-known-e-10 : tie.Need-enum-known-e-10
-enum-known-e-10 c = search needs
-
-code-39-requires : tie.Need-code-39-requires
-code-39-requires c κs = search needs
-
-enum-known-e-11 : tie.Need-enum-known-e-11
-enum-known-e-11 c = search needs
-
-pdf417-requires : tie.Need-pdf417-requires
-pdf417-requires c κs = search needs
-
-enum-known-e-12 : tie.Need-enum-known-e-12
-enum-known-e-12 c = search needs
-
-aztec-requires : tie.Need-aztec-requires
-aztec-requires c κs = search needs
-
-enum-known-e-13 : tie.Need-enum-known-e-13
-enum-known-e-13 c = search needs
-
-datamatrix-requires : tie.Need-datamatrix-requires
-datamatrix-requires c κs = search needs
-
-enum-known-e-14 : tie.Need-enum-known-e-14
-enum-known-e-14 c = search needs
-
-qr-requires : tie.Need-qr-requires
-qr-requires c κs = search needs
-
-enum-known-e-15 : tie.Need-enum-known-e-15
-enum-known-e-15 c = search needs
-
-maxicode-requires : tie.Need-maxicode-requires
-maxicode-requires c κs = search needs
-
-enum-known-e-16 : tie.Need-enum-known-e-16
-enum-known-e-16 c = search needs
-
-upce-requires : tie.Need-upce-requires
-upce-requires c κs = search needs
-
 returns : tie.Need-returns
 returns c = rw (c .before .before .e .given .1) (c .text-field .ensures)
 
@@ -151,38 +55,38 @@ pub flat-element-spec : {M : Type 1} → statement M
 flat-element-spec =
     tie.close
     (tie.spec
-    enum-known-e
-    text-field-requires
-    enum-known-e-2
-    graphic-box-requires
-    enum-known-e-3
-    diagonal-requires
-    enum-known-e-4
-    graphic-field-requires
-    enum-known-e-5
-    code-128-requires
-    enum-known-e-6
-    ean13-requires
-    enum-known-e-7
-    ean8-requires
-    enum-known-e-8
-    upca-requires
-    enum-known-e-9
-    interleaved-requires
-    enum-known-e-10
-    code-39-requires
-    enum-known-e-11
-    pdf417-requires
-    enum-known-e-12
-    aztec-requires
-    enum-known-e-13
-    datamatrix-requires
-    enum-known-e-14
-    qr-requires
-    enum-known-e-15
-    maxicode-requires
-    enum-known-e-16
-    upce-requires
+    (λ c. search needs)
+    (λ c κs. search needs)
+    (λ c. search needs)
+    (λ c κs. search needs)
+    (λ c. search needs)
+    (λ c κs. search needs)
+    (λ c. search needs)
+    (λ c κs. search needs)
+    (λ c. search needs)
+    (λ c κs. search needs)
+    (λ c. search needs)
+    (λ c κs. search needs)
+    (λ c. search needs)
+    (λ c κs. search needs)
+    (λ c. search needs)
+    (λ c κs. search needs)
+    (λ c. search needs)
+    (λ c κs. search needs)
+    (λ c. search needs)
+    (λ c κs. search needs)
+    (λ c. search needs)
+    (λ c κs. search needs)
+    (λ c. search needs)
+    (λ c κs. search needs)
+    (λ c. search needs)
+    (λ c κs. search needs)
+    (λ c. search needs)
+    (λ c κs. search needs)
+    (λ c. search needs)
+    (λ c κs. search needs)
+    (λ c. search needs)
+    (λ c κs. search needs)
     returns
     returns-2
     returns-3

@@ -3,17 +3,8 @@ use borrow.Author.Needs.{needs}
 use Rattle.structs.proofs.element.text_field.Statement.{statement}
 use Rattle.structs.proofs.element.text_field.Tie as tie
 
-placed-requires : tie.Need-placed-requires
-placed-requires c κs = search needs
-
-rotation-requires : tie.Need-rotation-requires
-rotation-requires c κs = search needs
-
-flag-requires : tie.Need-flag-requires
-flag-requires c κs = search needs
-
 returns : tie.Need-returns
 returns c = rw (c .before .before .before .before .before .placed .ensures, c .before .before .before .before .rotation .ensures, c .before .before .before .flag .ensures) (search needs)
 
 pub text-field-spec : {M : Type 1} → statement M
-text-field-spec = tie.close (tie.spec placed-requires rotation-requires flag-requires returns)
+text-field-spec = tie.close (tie.spec (λ c κs. search needs) (λ c κs. search needs) (λ c κs. search needs) returns)

@@ -3,11 +3,8 @@ use borrow.Author.Needs.{needs}
 use Rattle.structs.proofs.element.upca.Statement.{statement}
 use Rattle.structs.proofs.element.upca.Tie as tie
 
-barred-requires : tie.Need-barred-requires
-barred-requires c κs = search needs
-
 returns : tie.Need-returns
 returns c = rw (c .before .before .barred .ensures) (search needs)
 
 pub upca-spec : {M : Type 1} → statement M
-upca-spec = tie.close (tie.spec barred-requires returns)
+upca-spec = tie.close (tie.spec (λ c κs. search needs) returns)

@@ -3,42 +3,6 @@ use borrow.Author.Needs.{needs}
 use Rattle.structs.proofs.steps.flat_step.Statement.{statement}
 use Rattle.structs.proofs.steps.flat_step.Tie as tie
 
-enum-known-a : tie.Need-enum-known-a
-enum-known-a c = search needs
-
-flat-element-requires : tie.Need-flat-element-requires
-flat-element-requires c κs = search needs
-
-answered-requires : tie.Need-answered-requires
-answered-requires c κs = search needs
-
-enum-known-a-2 : tie.Need-enum-known-a-2
-enum-known-a-2 c = search needs
-
-event-requires : tie.Need-event-requires
-event-requires c κs = search needs
-
-enum-known-a-3 : tie.Need-enum-known-a-3
-enum-known-a-3 c = search needs
-
-printed-requires : tie.Need-printed-requires
-printed-requires c κs = search needs
-
-enum-known-a-4 : tie.Need-enum-known-a-4
-enum-known-a-4 c = search needs
-
-event-requires-2 : tie.Need-event-requires-2
-event-requires-2 c κs = search needs
-
-enum-known-a-5 : tie.Need-enum-known-a-5
-enum-known-a-5 c = search needs
-
-number-requires : tie.Need-number-requires
-number-requires c κs = search needs
-
-event-requires-3 : tie.Need-event-requires-3
-event-requires-3 c κs = search needs
-
 returns : tie.Need-returns
 returns c = rw (c .before .before .before .a .given .1, ← c .before .flat-element .ensures) (c .answered .ensures)
 
@@ -58,18 +22,18 @@ pub flat-step-spec : {M : Type 1} → statement M
 flat-step-spec =
     tie.close
     (tie.spec
-    enum-known-a
-    flat-element-requires
-    answered-requires
-    enum-known-a-2
-    event-requires
-    enum-known-a-3
-    printed-requires
-    enum-known-a-4
-    event-requires-2
-    enum-known-a-5
-    number-requires
-    event-requires-3
+    (λ c. search needs)
+    (λ c κs. search needs)
+    (λ c κs. search needs)
+    (λ c. search needs)
+    (λ c κs. search needs)
+    (λ c. search needs)
+    (λ c κs. search needs)
+    (λ c. search needs)
+    (λ c κs. search needs)
+    (λ c. search needs)
+    (λ c κs. search needs)
+    (λ c κs. search needs)
     returns
     returns-2
     returns-3

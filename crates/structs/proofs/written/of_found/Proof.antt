@@ -5,18 +5,6 @@ use borrow.Author.Needs.{needs}
 use Rattle.structs.proofs.written.of_found.Statement.{statement}
 use Rattle.structs.proofs.written.of_found.Tie as tie
 
-enum-known-a : tie.Need-enum-known-a
-enum-known-a c = search needs
-
-enum-known-a-2 : tie.Need-enum-known-a-2
-enum-known-a-2 c = search needs
-
-number-requires : tie.Need-number-requires
-number-requires c κs = search needs
-
-cast-t7 : tie.Need-cast-t7
-cast-t7 c = search needs
-
 returns : tie.Need-returns
 returns c = rw (c .before .a .given .1) (refl, refl)
 
@@ -26,4 +14,4 @@ returns-2 c =
     rw (c .number .ensures, g .1) (flat-refusal (g .0 .0) (g .0 .1 .0), flat-spotless (g .0 .0) (g .0 .1 .0))
 
 pub of-found-spec : {M : Type 1} → statement M
-of-found-spec = tie.close (tie.spec enum-known-a enum-known-a-2 number-requires cast-t7 returns returns-2)
+of-found-spec = tie.close (tie.spec (λ c. search needs) (λ c. search needs) (λ c κs. search needs) (λ c. search needs) returns returns-2)

@@ -4,18 +4,6 @@ use borrow.Author.Needs.{needs}
 use Rattle.structs.proofs.written.of_indexed.Statement.{statement}
 use Rattle.structs.proofs.written.of_indexed.Tie as tie
 
-enum-known-a : tie.Need-enum-known-a
-enum-known-a c = search needs
-
-enum-known-a-2 : tie.Need-enum-known-a-2
-enum-known-a-2 c = search needs
-
-number-requires : tie.Need-number-requires
-number-requires c κs = search needs
-
-cast-t7 : tie.Need-cast-t7
-cast-t7 c = search needs
-
 returns : tie.Need-returns
 returns c = rw (c .before .a .given .1)
 
@@ -23,4 +11,4 @@ returns-2 : tie.Need-returns-2
 returns-2 c = rw (c .number .ensures, c .before .before .a2 .given .1) (flat-uncounted (c .before .before .a2 .given .0 .0) (c .before .before .a2 .given .0 .1 .0))
 
 pub of-indexed-spec : {M : Type 1} → statement M
-of-indexed-spec = tie.close (tie.spec enum-known-a enum-known-a-2 number-requires cast-t7 returns returns-2)
+of-indexed-spec = tie.close (tie.spec (λ c. search needs) (λ c. search needs) (λ c κs. search needs) (λ c. search needs) returns returns-2)

@@ -4,18 +4,6 @@ use borrow.Author.Needs.{needs}
 use Rattle.structs_read.proofs.element.code_128_of.Statement.{statement}
 use Rattle.structs_read.proofs.element.code_128_of.Tie as tie
 
-at-requires : tie.Need-at-requires
-at-requires c κs = search needs
-
-span-requires : tie.Need-span-requires
-span-requires c κs = search needs
-
-orientation-of-requires : tie.Need-orientation-of-requires
-orientation-of-requires c κs = search needs
-
-mode-of-requires : tie.Need-mode-of-requires
-mode-of-requires c κs = search needs
-
 returns : tie.Need-returns
 returns c =
     let a = c .before .before .before .before .before .before .before .before in
@@ -24,4 +12,4 @@ returns c =
 
 pub code-128-of-spec : {M : Type 1} → statement M
 code-128-of-spec =
-    tie.close (tie.spec at-requires span-requires orientation-of-requires mode-of-requires returns)
+    tie.close (tie.spec (λ c κs. search needs) (λ c κs. search needs) (λ c κs. search needs) (λ c κs. search needs) returns)

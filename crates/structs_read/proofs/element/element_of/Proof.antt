@@ -6,54 +6,6 @@ use borrow.Author.Needs.{needs}
 use Rattle.structs_read.proofs.element.element_of.Statement.{statement}
 use Rattle.structs_read.proofs.element.element_of.Tie as tie
 
-text-of-requires : tie.Need-text-of-requires
-text-of-requires c κs = search needs
-
-box-of-requires : tie.Need-box-of-requires
-box-of-requires c κs = search needs
-
-diagonal-of-requires : tie.Need-diagonal-of-requires
-diagonal-of-requires c κs = search needs
-
-graphic-of-requires : tie.Need-graphic-of-requires
-graphic-of-requires c κs = search needs
-
-code-128-of-requires : tie.Need-code-128-of-requires
-code-128-of-requires c κs = search needs
-
-ean13-of-requires : tie.Need-ean13-of-requires
-ean13-of-requires c κs = search needs
-
-ean8-of-requires : tie.Need-ean8-of-requires
-ean8-of-requires c κs = search needs
-
-upca-of-requires : tie.Need-upca-of-requires
-upca-of-requires c κs = search needs
-
-interleaved-of-requires : tie.Need-interleaved-of-requires
-interleaved-of-requires c κs = search needs
-
-code-39-of-requires : tie.Need-code-39-of-requires
-code-39-of-requires c κs = search needs
-
-pdf417-of-requires : tie.Need-pdf417-of-requires
-pdf417-of-requires c κs = search needs
-
-aztec-of-requires : tie.Need-aztec-of-requires
-aztec-of-requires c κs = search needs
-
-datamatrix-of-requires : tie.Need-datamatrix-of-requires
-datamatrix-of-requires c κs = search needs
-
-qr-of-requires : tie.Need-qr-of-requires
-qr-of-requires c κs = search needs
-
-maxicode-of-requires : tie.Need-maxicode-of-requires
-maxicode-of-requires c κs = search needs
-
-upce-of-requires : tie.Need-upce-of-requires
-upce-of-requires c κs = search needs
-
 returns : tie.Need-returns
 returns c = simp (eq-eqb (c .before .before .args .x .kind) 1 (c .before .match .keys1)) (ap element.Text (c .text-of .ensures))
 
@@ -109,22 +61,22 @@ pub element-of-spec : {M : Type 1} → statement M
 element-of-spec =
     tie.close
     (tie.spec
-    text-of-requires
-    box-of-requires
-    diagonal-of-requires
-    graphic-of-requires
-    code-128-of-requires
-    ean13-of-requires
-    ean8-of-requires
-    upca-of-requires
-    interleaved-of-requires
-    code-39-of-requires
-    pdf417-of-requires
-    aztec-of-requires
-    datamatrix-of-requires
-    qr-of-requires
-    maxicode-of-requires
-    upce-of-requires
+    (λ c κs. search needs)
+    (λ c κs. search needs)
+    (λ c κs. search needs)
+    (λ c κs. search needs)
+    (λ c κs. search needs)
+    (λ c κs. search needs)
+    (λ c κs. search needs)
+    (λ c κs. search needs)
+    (λ c κs. search needs)
+    (λ c κs. search needs)
+    (λ c κs. search needs)
+    (λ c κs. search needs)
+    (λ c κs. search needs)
+    (λ c κs. search needs)
+    (λ c κs. search needs)
+    (λ c κs. search needs)
     returns
     returns-2
     returns-3

@@ -3,11 +3,8 @@ use borrow.Author.Needs.{needs}
 use Rattle.structs_read.proofs.element.font_of.Statement.{statement}
 use Rattle.structs_read.proofs.element.font_of.Tie as tie
 
-orientation-of-requires : tie.Need-orientation-of-requires
-orientation-of-requires c κs = search needs
-
 returns : tie.Need-returns
 returns c = rw (c .orientation-of .ensures) (search needs)
 
 pub font-of-spec : {M : Type 1} → statement M
-font-of-spec = tie.close (tie.spec orientation-of-requires returns)
+font-of-spec = tie.close (tie.spec (λ c κs. search needs) returns)

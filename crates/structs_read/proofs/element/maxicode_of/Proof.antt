@@ -3,14 +3,8 @@ use borrow.Author.Needs.{needs}
 use Rattle.structs_read.proofs.element.maxicode_of.Statement.{statement}
 use Rattle.structs_read.proofs.element.maxicode_of.Tie as tie
 
-at-requires : tie.Need-at-requires
-at-requires c κs = search needs
-
-span-requires : tie.Need-span-requires
-span-requires c κs = search needs
-
 returns : tie.Need-returns
 returns c = rw (c .before .before .at .ensures, c .before .span .ensures) (search needs)
 
 pub maxicode-of-spec : {M : Type 1} → statement M
-maxicode-of-spec = tie.close (tie.spec at-requires span-requires returns)
+maxicode-of-spec = tie.close (tie.spec (λ c κs. search needs) (λ c κs. search needs) returns)

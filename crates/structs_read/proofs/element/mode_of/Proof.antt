@@ -7,14 +7,8 @@ use borrow.Author.Needs.{needs}
 use Rattle.structs_read.proofs.element.mode_of.Statement.{statement}
 use Rattle.structs_read.proofs.element.mode_of.Tie as tie
 
-equal-requires : tie.Need-equal-requires
-equal-requires c κs = search needs
-
 returns : tie.Need-returns
 returns c = simp (sym (c .before .equal .ensures ∙ ap (λ (z : ℤ). eqZ z (pos 1)) (toZ-ofZ (c .before .before .fits .m))) ∙ c .if1 .taken)
-
-equal-requires-2 : tie.Need-equal-requires-2
-equal-requires-2 c κs = search needs
 
 returns-2 : tie.Need-returns-2
 returns-2 c = simp (sym (c .before .before .before .equal .ensures ∙ ap (λ (z : ℤ). eqZ z (pos 1)) (toZ-ofZ (c .before .before .before .before .fits .m))) ∙ c .before .before .if1 .left, sym (c .before .equal2 .ensures ∙ ap (λ (z : ℤ). eqZ z (pos 3)) (toZ-ofZ (c .before .before .before .before .fits .m))) ∙ c .if2 .taken)
@@ -23,4 +17,4 @@ returns-3 : tie.Need-returns-3
 returns-3 c = simp (sym (c .before .before .before .equal .ensures ∙ ap (λ (z : ℤ). eqZ z (pos 1)) (toZ-ofZ (c .before .before .before .before .fits .m))) ∙ c .before .before .if1 .left, sym (c .before .equal2 .ensures ∙ ap (λ (z : ℤ). eqZ z (pos 3)) (toZ-ofZ (c .before .before .before .before .fits .m))) ∙ c .if2 .left)
 
 pub mode-of-spec : {M : Type 1} → statement M
-mode-of-spec = tie.close (tie.spec equal-requires returns equal-requires-2 returns-2 returns-3)
+mode-of-spec = tie.close (tie.spec (λ c κs. search needs) returns (λ c κs. search needs) returns-2 returns-3)

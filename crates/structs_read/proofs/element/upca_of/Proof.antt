@@ -4,19 +4,10 @@ use borrow.Author.Needs.{needs}
 use Rattle.structs_read.proofs.element.upca_of.Statement.{statement}
 use Rattle.structs_read.proofs.element.upca_of.Tie as tie
 
-at-requires : tie.Need-at-requires
-at-requires c κs = search needs
-
-span-requires : tie.Need-span-requires
-span-requires c κs = search needs
-
-orientation-of-requires : tie.Need-orientation-of-requires
-orientation-of-requires c κs = search needs
-
 returns : tie.Need-returns
 returns c =
     let a = c .before .before .before .before .before .before in
     rw (c .before .before .before .before .before .at .ensures, c .before .before .before .before .span .ensures, c .before .before .before .orientation-of .ensures, back32 (a .args .x .height) (a .good .0 .1 .1 .1 .1 .1 .1 .1 .1 .1 .1 .1 .1 .1 .1 .0 .1), back32 (a .args .x .width) (a .good .0 .1 .1 .1 .1 .1 .1 .1 .1 .1 .1 .1 .1 .1 .0 .1))
 
 pub upca-of-spec : {M : Type 1} → statement M
-upca-of-spec = tie.close (tie.spec at-requires span-requires orientation-of-requires returns)
+upca-of-spec = tie.close (tie.spec (λ c κs. search needs) (λ c κs. search needs) (λ c κs. search needs) returns)

@@ -5,18 +5,6 @@ use borrow.Author.Needs.{needs}
 use Rattle.structs_read.proofs.same.same_places.Statement.{statement}
 use Rattle.structs_read.proofs.same.same_places.Tie as tie
 
-equal-requires : tie.Need-equal-requires
-equal-requires c κs = search needs
-
-equal-requires-2 : tie.Need-equal-requires-2
-equal-requires-2 c κs = search needs
-
-equal-requires-3 : tie.Need-equal-requires-3
-equal-requires-3 c κs = search needs
-
-equal-requires-4 : tie.Need-equal-requires-4
-equal-requires-4 c κs = search needs
-
 returns : tie.Need-returns
 returns c =
     let s = c .before .before .before .before .before .before .before .before .before .before .before .before in
@@ -33,4 +21,4 @@ returns c =
 
 pub same-places-spec : {M : Type 1} → statement M
 same-places-spec =
-    tie.close (tie.spec equal-requires equal-requires-2 equal-requires-3 equal-requires-4 returns)
+    tie.close (tie.spec (λ c κs. search needs) (λ c κs. search needs) (λ c κs. search needs) (λ c κs. search needs) returns)

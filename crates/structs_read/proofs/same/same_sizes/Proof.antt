@@ -3,18 +3,9 @@ use borrow.Author.Needs.{needs}
 use Rattle.structs_read.proofs.same.same_sizes.Statement.{statement}
 use Rattle.structs_read.proofs.same.same_sizes.Tie as tie
 
-same-bits-requires : tie.Need-same-bits-requires
-same-bits-requires c κs = search needs
-
-same-bits-requires-2 : tie.Need-same-bits-requires-2
-same-bits-requires-2 c κs = search needs
-
-same-bits-requires-3 : tie.Need-same-bits-requires-3
-same-bits-requires-3 c κs = search needs
-
 returns : tie.Need-returns
 returns c = rw (c .before .before .same-bits .ensures, c .before .same-bits2 .ensures, c .same-bits3 .ensures) (search needs)
 
 pub same-sizes-spec : {M : Type 1} → statement M
 same-sizes-spec =
-    tie.close (tie.spec same-bits-requires same-bits-requires-2 same-bits-requires-3 returns)
+    tie.close (tie.spec (λ c κs. search needs) (λ c κs. search needs) (λ c κs. search needs) returns)

@@ -58,39 +58,9 @@ module _ (d : tie.After-size-from2) where
 counted : (d : tie.After-reaches) → d .reaches .result ≡ leb 7 (length (fields (s (d .before .before))))
 counted d = let v = d .before .before in reached 6 (s v) (s v) (v .size-from2 .result .next) (at-reverse v) refl (d .reaches .ensures)
 
-number-from-requires : tie.Need-number-from-requires
-number-from-requires c κs = search needs
-
-number-from-requires-2 : tie.Need-number-from-requires-2
-number-from-requires-2 c κs = search needs
-
-number-from-requires-3 : tie.Need-number-from-requires-3
-number-from-requires-3 c κs = search needs
-
-number-from-requires-4 : tie.Need-number-from-requires-4
-number-from-requires-4 c κs = search needs
-
-size-from-requires : tie.Need-size-from-requires
-size-from-requires c κs = search needs
-
-size-from-requires-2 : tie.Need-size-from-requires-2
-size-from-requires-2 c κs = search needs
-
-reaches-requires : tie.Need-reaches-requires
-reaches-requires c κs = search needs
-
 returns : tie.Need-returns
 unfolding textReading
 returns c = too-few _ _ _ _ (counted (c .before)) (c .if1 .taken)
-
-rest-from-requires : tie.Need-rest-from-requires
-rest-from-requires c κs = search needs
-
-is-exactly-requires : tie.Need-is-exactly-requires
-is-exactly-requires c κs = search needs
-
-text-element-requires : tie.Need-text-element-requires
-text-element-requires c κs = search needs
 
 returns-2 : tie.Need-returns-2
 unfolding textReading textFields pointOf numberAt sizeAt exactlyAt
@@ -132,15 +102,15 @@ pub parse-epl-text-spec : {M : Type 1} → statement M
 parse-epl-text-spec =
     tie.close
     (tie.spec
-    number-from-requires
-    number-from-requires-2
-    number-from-requires-3
-    number-from-requires-4
-    size-from-requires
-    size-from-requires-2
-    reaches-requires
+    (λ c κs. search needs)
+    (λ c κs. search needs)
+    (λ c κs. search needs)
+    (λ c κs. search needs)
+    (λ c κs. search needs)
+    (λ c κs. search needs)
+    (λ c κs. search needs)
     returns
-    rest-from-requires
-    is-exactly-requires
-    text-element-requires
+    (λ c κs. search needs)
+    (λ c κs. search needs)
+    (λ c κs. search needs)
     returns-2)

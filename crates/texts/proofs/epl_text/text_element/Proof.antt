@@ -36,27 +36,9 @@ looks d =
     )
     at (d .font-info .ensures)
 
-place-requires : tie.Need-place-requires
-place-requires c κs = search needs
-
-enum-known-position : tie.Need-enum-known-position
-enum-known-position c = search needs
-
-enum-told : tie.Need-enum-told
-enum-told c = search needs
-
 returns : tie.Need-returns
 unfolding textElement
 returns c = simp (sym (stands (c .before .before)) ∙ c .enum-told .given .1)
-
-font-info-requires : tie.Need-font-info-requires
-font-info-requires c κs = search needs
-
-enum-known-font : tie.Need-enum-known-font
-enum-known-font c = search needs
-
-enum-told-2 : tie.Need-enum-told-2
-enum-told-2 c = search needs
 
 returns-2 : tie.Need-returns-2
 unfolding textElement
@@ -74,12 +56,12 @@ pub text-element-spec : {M : Type 1} → statement M
 text-element-spec =
     tie.close
     (tie.spec
-    place-requires
-    enum-known-position
-    enum-told
+    (λ c κs. search needs)
+    (λ c. search needs)
+    (λ c. search needs)
     returns
-    font-info-requires
-    enum-known-font
-    enum-told-2
+    (λ c κs. search needs)
+    (λ c. search needs)
+    (λ c. search needs)
     returns-2
     returns-3)

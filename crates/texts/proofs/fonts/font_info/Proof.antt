@@ -46,33 +46,9 @@ wide d =
     let e = p .before .before .before in
     simp (cell e) at (simp (toZ-ofZ (start p .fits .h-mult), back32 (e .epl-font-size .result .width) (d .before .struct-told2 .given .0 .1)) at (d .checked-mul2 .ensures))
 
-epl-font-size-requires : tie.Need-epl-font-size-requires
-epl-font-size-requires c κs = search needs
-
-epl-rotation-requires : tie.Need-epl-rotation-requires
-epl-rotation-requires c κs = search needs
-
-checked-mul-requires : tie.Need-checked-mul-requires
-checked-mul-requires c κs = search needs
-
-enum-known-height : tie.Need-enum-known-height
-enum-known-height c = search needs
-
-enum-told : tie.Need-enum-told
-enum-told c = search needs
-
 returns : tie.Need-returns
 unfolding fontOf
 returns c = simp (sym (high (c .before .before)) ∙ c .enum-told .given .1)
-
-equal-requires : tie.Need-equal-requires
-equal-requires c κs = search needs
-
-int-to-float-t11 : tie.Need-int-to-float-t11
-int-to-float-t11 c = search needs
-
-int-to-float-t12 : tie.Need-int-to-float-t12
-int-to-float-t12 c = search needs
 
 returns-2 : tie.Need-returns-2
 unfolding fontOf
@@ -81,26 +57,11 @@ returns-2 c =
     rw (back32 (e .before .before .height .given .0 .0) (e .before .known-told .given .0 .1))
     (simp (height-is e, sym (same e) ∙ c .before .before .if1 .taken, turned (product e .before .before)))
 
-checked-mul-requires-2 : tie.Need-checked-mul-requires-2
-checked-mul-requires-2 c κs = search needs
-
-enum-known-across : tie.Need-enum-known-across
-enum-known-across c = search needs
-
-enum-told-2 : tie.Need-enum-told-2
-enum-told-2 c = search needs
-
 returns-3 : tie.Need-returns-3
 unfolding fontOf
 returns-3 c =
     let p = c .before .before in
     simp (height-is (test p), sym (same (test p)) ∙ p .before .before .if1 .left, sym (wide p) ∙ c .enum-told2 .given .1)
-
-int-to-float-t15 : tie.Need-int-to-float-t15
-int-to-float-t15 c = search needs
-
-text-width-requires : tie.Need-text-width-requires
-text-width-requires c κs = search needs
 
 returns-4 : tie.Need-returns-4
 unfolding fontOf
@@ -117,20 +78,20 @@ pub font-info-spec : {M : Type 1} → statement M
 font-info-spec =
     tie.close
     (tie.spec
-    epl-font-size-requires
-    epl-rotation-requires
-    checked-mul-requires
-    enum-known-height
-    enum-told
+    (λ c κs. search needs)
+    (λ c κs. search needs)
+    (λ c κs. search needs)
+    (λ c. search needs)
+    (λ c. search needs)
     returns
-    equal-requires
-    int-to-float-t11
-    int-to-float-t12
+    (λ c κs. search needs)
+    (λ c. search needs)
+    (λ c. search needs)
     returns-2
-    checked-mul-requires-2
-    enum-known-across
-    enum-told-2
+    (λ c κs. search needs)
+    (λ c. search needs)
+    (λ c. search needs)
     returns-3
-    int-to-float-t15
-    text-width-requires
+    (λ c. search needs)
+    (λ c κs. search needs)
     returns-4)

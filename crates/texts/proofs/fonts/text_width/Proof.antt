@@ -6,15 +6,6 @@ use borrow.Author.Needs.{needs}
 use Rattle.texts.proofs.fonts.text_width.Statement.{statement}
 use Rattle.texts.proofs.fonts.text_width.Tie as tie
 
-int-to-float-result : tie.Need-int-to-float-result
-int-to-float-result c = search needs
-
-int-to-float-result-2 : tie.Need-int-to-float-result-2
-int-to-float-result-2 c = search needs
-
-int-to-float-result-3 : tie.Need-int-to-float-result-3
-int-to-float-result-3 c = search needs
-
 returns : tie.Need-returns
 unfolding widthOf
 returns c =
@@ -23,4 +14,4 @@ returns c =
 
 pub text-width-spec : {M : Type 1} → statement M
 text-width-spec =
-    tie.close (tie.spec int-to-float-result int-to-float-result-2 int-to-float-result-3 returns)
+    tie.close (tie.spec (λ c. search needs) (λ c. search needs) (λ c. search needs) returns)

@@ -13,24 +13,6 @@ use Rattle.walk_unit.proofs.unit.line_unit.Tie as tie
 by : (size : ℕ) (r : LabelPosition) {p q : LineReading} → p ≡ q → did size (actOf r q) ≡ did size (actOf r p)
 by size r e = ap (λ (x : LineReading). did size (actOf r x)) (sym e)
 
-enum-told : tie.Need-enum-told
-enum-told c = search needs
-
-enum-told-2 : tie.Need-enum-told-2
-enum-told-2 c = search needs
-
-enum-known-said : tie.Need-enum-known-said
-enum-known-said c = search needs
-
-enum-known-said-2 : tie.Need-enum-known-said-2
-enum-known-said-2 c = search needs
-
-enum-known-said-3 : tie.Need-enum-known-said-3
-enum-known-said-3 c = search needs
-
-enum-known-said-4 : tie.Need-enum-known-said-4
-enum-known-said-4 c = search needs
-
 returns : tie.Need-returns
 returns c = by (c .before .before .args .size) (c .before .before .args .reference) (c .enum-told .given .1)
 
@@ -59,12 +41,12 @@ pub line-unit-spec : {M : Type 1} → statement M
 line-unit-spec =
     tie.close
     (tie.spec
-    enum-told
-    enum-told-2
-    enum-known-said
-    enum-known-said-2
-    enum-known-said-3
-    enum-known-said-4
+    (λ c. search needs)
+    (λ c. search needs)
+    (λ c. search needs)
+    (λ c. search needs)
+    (λ c. search needs)
+    (λ c. search needs)
     returns
     returns-2
     returns-3

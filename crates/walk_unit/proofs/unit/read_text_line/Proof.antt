@@ -40,20 +40,11 @@ did-later at size r (reading.Refused n) = refl
 line-moved : (at size : ℕ) (r : LabelPosition) (t : List ℕ) → did size (actOf r (laterReading at (readLine t r))) ≡ moved epl at (lineTurn size r t)
 line-moved at size r t = did-later at size r (readLine t r) ∙ ap (moved epl at) (line-turn size r t)
 
-find-requires : tie.Need-find-requires
-find-requires c κs = search needs
-
-line-size-requires : tie.Need-line-size-requires
-line-size-requires c κs = search needs
-
 slice-aggregate-read-line : tie.Need-slice-aggregate-read-line
 slice-aggregate-read-line c = let f = c .before .before in sym (length-take-le (f .find .result) (f .before .before .args .rest .now) (f .find .ensures .fits))
 
 read-line-requires : tie.Need-read-line-requires
 read-line-requires c κs = let f = c .before .before in omega (arith, length-take (f .find .result) (f .before .before .args .rest .now))
-
-line-unit-requires : tie.Need-line-unit-requires
-line-unit-requires c κs = search needs
 
 returns : tie.Need-returns
 returns c =
@@ -67,9 +58,9 @@ pub read-text-line-spec : {M : Type 1} → statement M
 read-text-line-spec =
     tie.close
     (tie.spec
-    find-requires
-    line-size-requires
+    (λ c κs. search needs)
+    (λ c κs. search needs)
     slice-aggregate-read-line
     read-line-requires
-    line-unit-requires
+    (λ c κs. search needs)
     returns)

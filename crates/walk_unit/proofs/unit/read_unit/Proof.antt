@@ -20,21 +20,6 @@ reading-none (b ∷ t) r h = absurd (omega arith)
 returns : tie.Need-returns
 returns c = let a = c .before .before .args in rw (reading-none (a .rest .now) (a .reference) (c .if1 .taken))
 
-read-block-requires : tie.Need-read-block-requires
-read-block-requires c κs = search needs
-
-enum-told : tie.Need-enum-told
-enum-told c = search needs
-
-read-text-line-requires : tie.Need-read-text-line-requires
-read-text-line-requires c κs = search needs
-
-enum-known-n : tie.Need-enum-known-n
-enum-known-n c = search needs
-
-enum-known-e : tie.Need-enum-known-e
-enum-known-e c = search needs
-
 returns-2 : tie.Need-returns-2
 returns-2 c =
     let b = c .before .before .before in
@@ -58,11 +43,11 @@ read-unit-spec =
     tie.close
     (tie.spec
     returns
-    read-block-requires
-    enum-told
-    read-text-line-requires
-    enum-known-n
-    enum-known-e
+    (λ c κs. search needs)
+    (λ c. search needs)
+    (λ c κs. search needs)
+    (λ c. search needs)
+    (λ c. search needs)
     returns-2
     returns-3
     returns-4)

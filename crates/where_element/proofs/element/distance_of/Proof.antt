@@ -7,14 +7,8 @@ use borrow.Author.Needs.{needs}
 use Rattle.where_element.proofs.element.distance_of.Statement.{statement}
 use Rattle.where_element.proofs.element.distance_of.Tie as tie
 
-position-of-requires : tie.Need-position-of-requires
-position-of-requires c κs = search needs
-
-distance-requires : tie.Need-distance-requires
-distance-requires c κs = search needs
-
 returns : tie.Need-returns
 returns c = c .distance .ensures ∙ ap (λ (p : LabelPosition). distance p (c .before .before .args .q)) (c .before .position-of .ensures)
 
 pub distance-of-spec : {M : Type 1} → statement M
-distance-of-spec = tie.close (tie.spec position-of-requires distance-requires returns)
+distance-of-spec = tie.close (tie.spec (λ c κs. search needs) (λ c κs. search needs) returns)

@@ -6,14 +6,8 @@ use borrow.Author.Needs.{needs}
 use Rattle.where_element.proofs.element.is_on.Statement.{statement}
 use Rattle.where_element.proofs.element.is_on.Tie as tie
 
-plain-of-requires : tie.Need-plain-of-requires
-plain-of-requires c κs = search needs
-
-is-on-by-requires : tie.Need-is-on-by-requires
-is-on-by-requires c κs = search needs
-
 returns : tie.Need-returns
 returns c = c .is-on-by .ensures ∙ ap (λ (p : Plain). isOnBy (c .before .before .before .args .r) (p .position) (p .fields)) (c .before .before .plain-of .ensures)
 
 pub is-on-spec : {M : Type 1} → statement M
-is-on-spec = tie.close (tie.spec plain-of-requires is-on-by-requires returns)
+is-on-spec = tie.close (tie.spec (λ c κs. search needs) (λ c κs. search needs) returns)

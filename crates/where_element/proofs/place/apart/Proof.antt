@@ -24,17 +24,11 @@ falling c =
     let e : c .minus2 .result ≡ s .args .a -ℤ s .args .b = simp (toZ-ofZ (s .fits .a), toZ-ofZ (s .fits .b)) at (c .minus2 .ensures) in
     ahead-of (s .args .a) (s .args .b) (c .minus2 .result) (not-lt (s .args .a) (s .args .b) t) (c .minus2 .ok) e
 
-minus-requires : tie.Need-minus-requires
-minus-requires c κs = search needs
-
 cast-result : tie.Need-cast-result
 cast-result c = rising c .casts
 
 returns : tie.Need-returns
 returns c = rising c .is ∙ apart-comm (c .before .before .args .b) (c .before .before .args .a)
-
-minus-requires-2 : tie.Need-minus-requires-2
-minus-requires-2 c κs = search needs
 
 cast-result-2 : tie.Need-cast-result-2
 cast-result-2 c = falling c .casts
@@ -45,4 +39,4 @@ returns-2 c = falling c .is
 pub apart-spec : {M : Type 1} → statement M
 apart-spec =
     tie.close
-    (tie.spec minus-requires cast-result returns minus-requires-2 cast-result-2 returns-2)
+    (tie.spec (λ c κs. search needs) cast-result returns (λ c κs. search needs) cast-result-2 returns-2)

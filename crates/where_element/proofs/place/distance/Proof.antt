@@ -7,15 +7,6 @@ use borrow.Author.Needs.{needs}
 use Rattle.where_element.proofs.place.distance.Statement.{statement}
 use Rattle.where_element.proofs.place.distance.Tie as tie
 
-apart-requires : tie.Need-apart-requires
-apart-requires c κs = search needs
-
-apart-requires-2 : tie.Need-apart-requires-2
-apart-requires-2 c κs = search needs
-
-larger-requires : tie.Need-larger-requires
-larger-requires c κs = search needs
-
 returns : tie.Need-returns
 returns c =
     let s = c .before .before .before .before .before .before .before in
@@ -28,4 +19,4 @@ returns c =
     c .larger .ensures ∙ rw (across, down)
 
 pub distance-spec : {M : Type 1} → statement M
-distance-spec = tie.close (tie.spec apart-requires apart-requires-2 larger-requires returns)
+distance-spec = tie.close (tie.spec (λ c κs. search needs) (λ c κs. search needs) (λ c κs. search needs) returns)

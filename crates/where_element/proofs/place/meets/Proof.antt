@@ -7,12 +7,6 @@ use borrow.Author.Needs.{needs}
 use Rattle.where_element.proofs.place.meets.Statement.{statement}
 use Rattle.where_element.proofs.place.meets.Tie as tie
 
-reaches-requires : tie.Need-reaches-requires
-reaches-requires c κs = search needs
-
-reaches-requires-2 : tie.Need-reaches-requires-2
-reaches-requires-2 c κs = search needs
-
 returns : tie.Need-returns
 returns c =
     let s = c .before .before in
@@ -21,4 +15,4 @@ returns c =
     rw (toZ-ofZ (s .fits .at), toZ-ofZ (s .fits .high), own, e)
 
 pub meets-spec : {M : Type 1} → statement M
-meets-spec = tie.close (tie.spec reaches-requires reaches-requires-2 returns)
+meets-spec = tie.close (tie.spec (λ c κs. search needs) (λ c κs. search needs) returns)

@@ -14,9 +14,6 @@ use Rattle.where_element.proofs.place.reaches.Tie as tie
 cast-result : tie.Need-cast-result
 cast-result c = simp (toZ-ofZ (c .fits .low)) (sfits-widen tt (c .fits .low))
 
-plus-requires : tie.Need-plus-requires
-plus-requires c κs = search needs
-
 returns : tie.Need-returns
 returns c =
     let s = c .before in
@@ -25,4 +22,4 @@ returns c =
     simp (toZ-ofZ (s .fits .low), toZ-ofZ w, back64 (c .plus .result) (c .plus .ok)) (ap (leZ (s .args .low)) e)
 
 pub reaches-spec : {M : Type 1} → statement M
-reaches-spec = tie.close (tie.spec cast-result plus-requires returns)
+reaches-spec = tie.close (tie.spec cast-result (λ c κs. search needs) returns)

@@ -9,12 +9,6 @@ use borrow.Author.Needs.{needs}
 use Rattle.where_element.proofs.place.touches.Statement.{statement}
 use Rattle.where_element.proofs.place.touches.Tie as tie
 
-meets-requires : tie.Need-meets-requires
-meets-requires c κs = search needs
-
-meets-requires-2 : tie.Need-meets-requires-2
-meets-requires-2 c κs = search needs
-
 returns : tie.Need-returns
 returns c =
     let s = c .before .before .before .before .before .before in
@@ -26,4 +20,4 @@ returns c =
     rw (across, down)
 
 pub touches-spec : {M : Type 1} → statement M
-touches-spec = tie.close (tie.spec meets-requires meets-requires-2 returns)
+touches-spec = tie.close (tie.spec (λ c κs. search needs) (λ c κs. search needs) returns)

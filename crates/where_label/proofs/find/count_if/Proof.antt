@@ -5,9 +5,6 @@ use borrow.Author.Needs.{needs}
 use Rattle.where_label.proofs.find.count_if.Statement.{statement}
 use Rattle.where_label.proofs.find.count_if.Tie as tie
 
-add-result : tie.Need-add-result
-add-result c = search needs
-
 returns : tie.Need-returns
 returns c = simp (c .if1 .taken)
 
@@ -15,4 +12,4 @@ returns-2 : tie.Need-returns-2
 returns-2 c = simp (c .if1 .left) (omega arith)
 
 pub count-if-spec : {M : Type 1} → statement M
-count-if-spec = tie.close (tie.spec add-result returns returns-2)
+count-if-spec = tie.close (tie.spec (λ c. search needs) returns returns-2)

@@ -1,6 +1,6 @@
 -- `where_label::find::find_first` meets its contract: the first pass says what is due, and only what fits is written.
 -- Assumes nothing.
-use mathlib.Core.Path.{_≡_, subst, _∙_}
+use mathlib.Core.Path.{_≡_, subst}
 use native.Mathlib.Omega.{arith}
 use Rattle.elements.proofs.GivenLaws.{fills-denied, fills-short, fills-written}
 use Rattle.where_label.specs.declared.find.Counted.{Counted}

@@ -7,17 +7,8 @@ use borrow.Author.Needs.{needs}
 use Rattle.where_label.proofs.find.put_if.Statement.{statement}
 use Rattle.where_label.proofs.find.put_if.Tie as tie
 
-mul-list : tie.Need-mul-list
-mul-list c = search needs
-
 slice-write-list : tie.Need-slice-write-list
 slice-write-list c = omega (arith, simp (c .if1 .taken) at (c .before .pre))
-
-add-result : tie.Need-add-result
-add-result c = search needs
-
-same-length : tie.Need-same-length
-same-length c = search needs
 
 returns : tie.Need-returns
 returns c = simp (c .if1 .taken) (record { wrote = wrote refl; next = refl })
@@ -26,4 +17,4 @@ returns-2 : tie.Need-returns-2
 returns-2 c = simp (c .if1 .left) (record { wrote = wrote refl; next = omega arith })
 
 pub put-if-spec : {M : Type 1} → statement M
-put-if-spec = tie.close (tie.spec mul-list slice-write-list add-result same-length returns returns-2)
+put-if-spec = tie.close (tie.spec (λ c. search needs) slice-write-list (λ c. search needs) (λ c. search needs) returns returns-2)

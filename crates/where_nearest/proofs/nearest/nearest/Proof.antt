@@ -1,6 +1,6 @@
 -- `where_nearest::nearest::nearest` meets its contract: a walk of its MIR, by hand. The entry is taken out of its list, and
 -- `nearest_entry` does the work. Assumes nothing.
-use mathlib.Core.Path.{_≡_, refl, sym, _∙_, ap}
+use mathlib.Core.Path.{_≡_, refl, _∙_, ap}
 use Prim.Native.Nat.{ℕ}
 use mathlib.Core.List.{List, [], _∷_}
 use lib.ListN.{length, getD}
@@ -9,7 +9,7 @@ use base.Logic.{emp, id⊢}
 use base.Fml.{Fml}
 use contract.Monad.{factI}
 use contract.Running.{givenOf}
-use types.Kit.{Given, ‵, raw, _⊛_, _$_, !, by, move, keep, use1, use2, drop, split, fsplit, fjoin}
+use types.Kit.{Given, raw, _⊛_, _$_, !, by, move, keep, use1, use2, split, fsplit, fjoin}
 use types.Part.{whole, sub, look-in}
 use types.Run.{look, init, stop, fld, from, load, of-opd, and-then, no-more, assigns, land, returns, alloc1, alloc0, params1, pass1, pass0, free0}
 use denote.Laws.{Is}

@@ -4,14 +4,13 @@ use mathlib.Core.Path.{_≡_, refl, sym, ap, _∙_}
 use mathlib.Core.List.{List, [], _∷_, _++_, append-assoc, append-nil}
 use Prim.Native.Nat.{ℕ, suc, _-_}
 use native.Mathlib.Omega.{arith}
-use lib.ListN.{length, length-append}
-use Rattle.elements.specs.Refusals.{numberOf}
+use lib.ListN.{length}
 use Rattle.elements.specs.declared.LabelElement.{LabelElement}
 use Rattle.elements.specs.declared.LabelPosition.{LabelPosition}
 use Rattle.elements.specs.declared.walk_state.WalkState.{WalkState}
 use Rattle.walk_theory.specs.Index.{firstIn}
 use Rattle.grammar.specs.Epl.{epl}
-use Rattle.walk.specs.Steps.{EplTrace, traceOf}
+use Rattle.walk.specs.Steps.{traceOf}
 use Rattle.walk.specs.declared.answer.Answer.{Answer}
 use Rattle.walk.specs.declared.answer.Answer.the-variants.{Element, Clear, Print, End, Refused}
 use Rattle.walk.proofs.WalkLaws.{onStep, begins, Moved, moved-by}

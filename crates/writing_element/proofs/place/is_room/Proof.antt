@@ -3,11 +3,8 @@ use borrow.Author.Needs.{needs}
 use Rattle.writing_element.proofs.place.is_room.Statement.{statement}
 use Rattle.writing_element.proofs.place.is_room.Tie as tie
 
-holds-requires : tie.Need-holds-requires
-holds-requires c κs = search needs
-
 returns : tie.Need-returns
 returns c = rw (c .holds .ensures) (search needs)
 
 pub is-room-spec : {M : Type 1} → statement M
-is-room-spec = tie.close (tie.spec holds-requires returns)
+is-room-spec = tie.close (tie.spec (λ c κs. search needs) returns)

@@ -16,19 +16,10 @@ returns c =
     let a = c .before .before .before in
     puts-none (ap textOf (due-long (now (a .args .input)) (a .args .e) (c .if1 .taken)))
 
-bytes-of-requires : tie.Need-bytes-of-requires
-bytes-of-requires c κs = search needs
-
-can-write-requires : tie.Need-can-write-requires
-can-write-requires c κs = search needs
-
 put-there-requires : tie.Need-put-there-requires
 put-there-requires c κs =
     let a = c .before .before .before .before .before .before .before in
     omega (arith, ap length (c .before .before .before .bytes-of .ensures), part-short (now (a .args .input)) (spanAt (a .args .e)), c .before .before .before .before .if1 .left)
-
-same-length : tie.Need-same-length
-same-length c = search needs
 
 returns-2 : tie.Need-returns-2
 returns-2 c =
@@ -49,9 +40,9 @@ put-flat-spec =
     tie.close
     (tie.spec
     returns
-    bytes-of-requires
-    can-write-requires
+    (λ c κs. search needs)
+    (λ c κs. search needs)
     put-there-requires
-    same-length
+    (λ c. search needs)
     returns-2
     returns-3)

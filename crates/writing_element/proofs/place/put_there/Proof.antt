@@ -14,15 +14,6 @@ use borrow.Author.Needs.{needs}
 use Rattle.writing_element.proofs.place.put_there.Statement.{statement}
 use Rattle.writing_element.proofs.place.put_there.Tie as tie
 
-which-of-requires : tie.Need-which-of-requires
-which-of-requires c κs = search needs
-
-command-len-requires : tie.Need-command-len-requires
-command-len-requires c κs = search needs
-
-is-room-requires : tie.Need-is-room-requires
-is-room-requires c κs = search needs
-
 put-command-requires : tie.Need-put-command-requires
 put-command-requires c κs =
     let a = c .before .before .before .before .before .before .before in
@@ -32,9 +23,6 @@ put-command-requires c κs =
       c .before .before .before .command-len .ensures .is (now (a .args .t)) refl,
       room-ends (a .args .writing) (a .args .at) (c .before .before .before .command-len .result) (length (a .args .out .now)) (sym (c .before .before .is-room .ensures) ∙ c .before .if1 .taken),
     )
-
-same-length : tie.Need-same-length
-same-length c = search needs
 
 returns : tie.Need-returns
 returns c =
@@ -64,10 +52,10 @@ pub put-there-spec : {M : Type 1} → statement M
 put-there-spec =
     tie.close
     (tie.spec
-    which-of-requires
-    command-len-requires
-    is-room-requires
+    (λ c κs. search needs)
+    (λ c κs. search needs)
+    (λ c κs. search needs)
     put-command-requires
-    same-length
+    (λ c. search needs)
     returns
     returns-2)

@@ -12,18 +12,6 @@ returns c =
     let a = c .before .before .before in
     fills-due (plain-long (now (a .args .input)) (a .args .x) (c .if1 .taken)) (record { answer = refl; buffer = refl })
 
-is-element-requires : tie.Need-is-element-requires
-is-element-requires c κs = search needs
-
-element-of-requires : tie.Need-element-of-requires
-element-of-requires c κs = search needs
-
-write-requires : tie.Need-write-requires
-write-requires c κs = search needs
-
-same-length : tie.Need-same-length
-same-length c = search needs
-
 returns-2 : tie.Need-returns-2
 returns-2 c =
     let a = c .before .before .before .before .before .before .before .before .before .before in
@@ -41,9 +29,9 @@ write-plain-spec =
     tie.close
     (tie.spec
     returns
-    is-element-requires
-    element-of-requires
-    write-requires
-    same-length
+    (λ c κs. search needs)
+    (λ c κs. search needs)
+    (λ c κs. search needs)
+    (λ c. search needs)
     returns-2
     returns-3)

@@ -3,11 +3,8 @@ use borrow.Author.Needs.{needs}
 use Rattle.writing_element.proofs.write.bytes_of.Statement.{statement}
 use Rattle.writing_element.proofs.write.bytes_of.Tie as tie
 
-part-requires : tie.Need-part-requires
-part-requires c κs = search needs
-
 returns : tie.Need-returns
 returns c = c .part .ensures
 
 pub bytes-of-spec : {M : Type 1} → statement M
-bytes-of-spec = tie.close (tie.spec part-requires returns)
+bytes-of-spec = tie.close (tie.spec (λ c κs. search needs) returns)

@@ -12,12 +12,6 @@ use borrow.Author.Needs.{needs}
 use Rattle.writing_element.proofs.write.put_sized.Statement.{statement}
 use Rattle.writing_element.proofs.write.put_sized.Tie as tie
 
-which-of-requires : tie.Need-which-of-requires
-which-of-requires c κs = search needs
-
-command-len-requires : tie.Need-command-len-requires
-command-len-requires c κs = search needs
-
 returns : tie.Need-returns
 returns c =
     let a = c .before .before .before .before .before in
@@ -28,9 +22,6 @@ put-command-requires : tie.Need-put-command-requires
 put-command-requires c κs =
     let a = c .before .before .before .before .before .before in
     omega (arith, c .before .before .command-len .ensures .is (now (a .args .t)) refl, c .before .if1 .left)
-
-same-length : tie.Need-same-length
-same-length c = search needs
 
 returns-2 : tie.Need-returns-2
 returns-2 c =
@@ -44,9 +35,9 @@ pub put-sized-spec : {M : Type 1} → statement M
 put-sized-spec =
     tie.close
     (tie.spec
-    which-of-requires
-    command-len-requires
+    (λ c κs. search needs)
+    (λ c κs. search needs)
     returns
     put-command-requires
-    same-length
+    (λ c. search needs)
     returns-2)

@@ -4,9 +4,6 @@ use borrow.Author.Needs.{needs}
 use Rattle.writing_element.proofs.write.which_box.Statement.{statement}
 use Rattle.writing_element.proofs.write.which_box.Tie as tie
 
-is-line-requires : tie.Need-is-line-requires
-is-line-requires c κs = search needs
-
 returns : tie.Need-returns
 returns c = simp (sym (c .before .is-line .ensures) ∙ c .if1 .taken)
 
@@ -14,4 +11,4 @@ returns-2 : tie.Need-returns-2
 returns-2 c = simp (sym (c .before .is-line .ensures) ∙ c .if1 .left)
 
 pub which-box-spec : {M : Type 1} → statement M
-which-box-spec = tie.close (tie.spec is-line-requires returns returns-2)
+which-box-spec = tie.close (tie.spec (λ c κs. search needs) returns returns-2)

@@ -4,15 +4,6 @@ use borrow.Author.Needs.{needs}
 use Rattle.writing_element.proofs.write.which_of.Statement.{statement}
 use Rattle.writing_element.proofs.write.which_of.Tie as tie
 
-which-box-requires : tie.Need-which-box-requires
-which-box-requires c κs = search needs
-
-which-diagonal-requires : tie.Need-which-diagonal-requires
-which-diagonal-requires c κs = search needs
-
-which-pdf417-requires : tie.Need-which-pdf417-requires
-which-pdf417-requires c κs = search needs
-
 returns : tie.Need-returns
 returns c = rw (c .before .match .keys1) (c .which-box .ensures)
 
@@ -29,9 +20,9 @@ pub which-of-spec : {M : Type 1} → statement M
 which-of-spec =
     tie.close
     (tie.spec
-    which-box-requires
-    which-diagonal-requires
-    which-pdf417-requires
+    (λ c κs. search needs)
+    (λ c κs. search needs)
+    (λ c κs. search needs)
     returns
     returns-2
     returns-3

@@ -4,9 +4,6 @@ use borrow.Author.Needs.{needs}
 use Rattle.writing_element.proofs.write.which_pdf417.Statement.{statement}
 use Rattle.writing_element.proofs.write.which_pdf417.Tie as tie
 
-is-number-requires : tie.Need-is-number-requires
-is-number-requires c κs = search needs
-
 returns : tie.Need-returns
 returns c = simp (sym (c .before .is-number .ensures) ∙ c .if1 .taken)
 
@@ -14,4 +11,4 @@ returns-2 : tie.Need-returns-2
 returns-2 c = simp (sym (c .before .is-number .ensures) ∙ c .if1 .left)
 
 pub which-pdf417-spec : {M : Type 1} → statement M
-which-pdf417-spec = tie.close (tie.spec is-number-requires returns returns-2)
+which-pdf417-spec = tie.close (tie.spec (λ c κs. search needs) returns returns-2)

@@ -3,15 +3,6 @@ use borrow.Author.Needs.{needs}
 use Rattle.writing_label.proofs.at_300.turn_300.Statement.{statement}
 use Rattle.writing_label.proofs.at_300.turn_300.Tie as tie
 
-dots-of-requires : tie.Need-dots-of-requires
-dots-of-requires c κs = search needs
-
-turn-requires : tie.Need-turn-requires
-turn-requires c κs = search needs
-
-same-length : tie.Need-same-length
-same-length c = search needs
-
 returns : tie.Need-returns
 returns c = rw (c .before .before .before .dots-of .ensures) at (c .before .before .turn .ensures)
 
@@ -19,7 +10,7 @@ pub turn-300-spec : {M : Type 1} → statement M
 turn-300-spec =
     tie.close
     (tie.spec
-    dots-of-requires
-    turn-requires
-    same-length
+    (λ c κs. search needs)
+    (λ c κs. search needs)
+    (λ c. search needs)
     returns)

@@ -5,21 +5,6 @@ use borrow.Author.Needs.{needs}
 use Rattle.writing_label.proofs.label.begin.Statement.{statement}
 use Rattle.writing_label.proofs.label.begin.Tie as tie
 
-enum-told : tie.Need-enum-told
-enum-told c = search needs
-
-slice-write-out : tie.Need-slice-write-out
-slice-write-out c = search needs
-
-slice-write-out-2 : tie.Need-slice-write-out-2
-slice-write-out-2 c = search needs
-
-enum-told-2 : tie.Need-enum-told-2
-enum-told-2 c = search needs
-
-same-length : tie.Need-same-length
-same-length c = search needs
-
 returns : tie.Need-returns
 returns c = rw (c .before .enum-told .given .1) (simp (le-leb 2 (length (c .before .before .before .args .out .now)) (c .if1 .taken)))
 
@@ -33,11 +18,11 @@ pub begin-spec : {M : Type 1} → statement M
 begin-spec =
     tie.close
     (tie.spec
-    enum-told
-    slice-write-out
-    slice-write-out-2
-    enum-told-2
-    same-length
+    (λ c. search needs)
+    (λ c. search needs)
+    (λ c. search needs)
+    (λ c. search needs)
+    (λ c. search needs)
     returns
     returns-2
     returns-3)

@@ -1,5 +1,5 @@
 -- `writing_label::label::finish` meets its contract. Assumes nothing.
-use mathlib.Core.Path.{_≡_, sym, ap, _∙_}
+use mathlib.Core.Path.{_≡_, sym, _∙_}
 use mathlib.Core.Bool.{true}
 use native.Mathlib.Omega.{arith}
 use lib.ListN.{length}
@@ -11,15 +11,6 @@ use borrow.Author.Needs.{needs}
 use Rattle.writing_label.proofs.label.finish.Statement.{statement}
 use Rattle.writing_label.proofs.label.finish.Tie as tie
 
-enum-known-p : tie.Need-enum-known-p
-enum-known-p c = search needs
-
-print-len-requires : tie.Need-print-len-requires
-print-len-requires c κs = search needs
-
-is-room-requires : tie.Need-is-room-requires
-is-room-requires c κs = search needs
-
 length-is : (c : tie.After-print-len) → c .print-len .result ≡ length (printText (c .before .before .before .before .before .args .sets) (c .before .before .before .before .before .args .copies))
 length-is c = let s = c .before .before .before .before .before in simp (toZ-ofZ (s .fits .sets), toZ-ofZ (s .fits .copies)) at (c .print-len .ensures .is)
 
@@ -28,12 +19,6 @@ put-print-requires c κs =
     let s = c .before .before .before .before .before .before .before .before in
     let n = length-is (c .before .before .before) in
     omega (arith, n, room-ends true (s .args .e .at) (c .before .before .before .print-len .result) (length (s .args .out .now)) (sym (c .before .before .is-room .ensures) ∙ c .before .if1 .taken))
-
-enum-known-p-2 : tie.Need-enum-known-p-2
-enum-known-p-2 c = search needs
-
-same-length : tie.Need-same-length
-same-length c = search needs
 
 returns : tie.Need-returns
 returns c =
@@ -55,12 +40,12 @@ pub finish-spec : {M : Type 1} → statement M
 finish-spec =
     tie.close
     (tie.spec
-    enum-known-p
-    print-len-requires
-    is-room-requires
+    (λ c. search needs)
+    (λ c κs. search needs)
+    (λ c κs. search needs)
     put-print-requires
-    enum-known-p-2
-    same-length
+    (λ c. search needs)
+    (λ c. search needs)
     returns
     returns-2
     returns-3)

@@ -26,17 +26,8 @@ returns c = simp (lt-ltb longest (c .before .args .long) (c .if1 .taken))
 returns-2 : tie.Need-returns-2
 returns-2 c = simp (le-ltb longest (c .before .before .args .long) (c .before .if1 .left), c .if2 .taken)
 
-is-none-requires : tie.Need-is-none-requires
-is-none-requires c κs = search needs
-
 returns-3 : tie.Need-returns-3
 returns-3 c = simp (le-ltb longest (c .before .before .before .before .args .long) (c .before .before .before .if1 .left), c .before .before .if2 .left, none-is (c .before) ∙ c .if3 .taken)
-
-print-len-requires : tie.Need-print-len-requires
-print-len-requires c κs = search needs
-
-onto-requires : tie.Need-onto-requires
-onto-requires c κs = search needs
 
 returns-4 : tie.Need-returns-4
 returns-4 c = simp (le-ltb longest (c .before .before .before .before .before .before .before .args .long) (c .before .before .before .before .before .before .if1 .left), c .before .before .before .before .before .if2 .left, none-is (c .before .before .before .before) ∙ c .before .before .before .if3 .left) (answer-short (c .if4 .taken) (total-is (c .before)))
@@ -50,9 +41,9 @@ plan-spec =
     (tie.spec
     returns
     returns-2
-    is-none-requires
+    (λ c κs. search needs)
     returns-3
-    print-len-requires
-    onto-requires
+    (λ c κs. search needs)
+    (λ c κs. search needs)
     returns-4
     returns-5)

@@ -10,18 +10,6 @@ use borrow.Author.Needs.{needs}
 use Rattle.writing_label.proofs.label.print_len.Statement.{statement}
 use Rattle.writing_label.proofs.label.print_len.Tie as tie
 
-decimal-len-requires : tie.Need-decimal-len-requires
-decimal-len-requires c κs = search needs
-
-decimal-len-requires-2 : tie.Need-decimal-len-requires-2
-decimal-len-requires-2 c κs = search needs
-
-add-result : tie.Need-add-result
-add-result c = search needs
-
-add-result-2 : tie.Need-add-result-2
-add-result-2 c = search needs
-
 returns : tie.Need-returns
 returns c =
     let s = c .before .before in
@@ -35,8 +23,8 @@ pub print-len-spec : {M : Type 1} → statement M
 print-len-spec =
     tie.close
     (tie.spec
-    decimal-len-requires
-    decimal-len-requires-2
-    add-result
-    add-result-2
+    (λ c κs. search needs)
+    (λ c κs. search needs)
+    (λ c. search needs)
+    (λ c. search needs)
     returns)

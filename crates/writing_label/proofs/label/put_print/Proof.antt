@@ -8,7 +8,6 @@ use mir.Facts.{toZ-ofZ}
 use Rattle.decimals.specs.Decimal.{decimal}
 use Rattle.decimals.proofs.PutLaws.{put-as}
 use Rattle.writing_label.proofs.PrintLaws.{print-long, print-put, first-ends, second-ends}
-use borrow.Author.Needs.{needs}
 use Rattle.writing_label.proofs.label.put_print.Statement.{statement}
 use Rattle.writing_label.proofs.label.put_print.Tie as tie
 

@@ -4,20 +4,11 @@ use borrow.Author.Needs.{needs}
 use Rattle.writing_label.proofs.tally.after.Statement.{statement}
 use Rattle.writing_label.proofs.tally.after.Tie as tie
 
-stopped-requires : tie.Need-stopped-requires
-stopped-requires c κs = search needs
-
 returns : tie.Need-returns
 returns c = rw (c .stopped .ensures) (simp (eq-eqb (c .before .before .args .n) 0 (c .before .if1 .taken)))
-
-onto-requires : tie.Need-onto-requires
-onto-requires c κs = search needs
-
-onto-requires-2 : tie.Need-onto-requires-2
-onto-requires-2 c κs = search needs
 
 returns-2 : tie.Need-returns-2
 returns-2 c = rw (c .before .onto .ensures, c .onto2 .ensures) (simp (ne-eqb (c .before .before .before .args .n) 0 (c .before .before .if1 .left)))
 
 pub after-spec : {M : Type 1} → statement M
-after-spec = tie.close (tie.spec stopped-requires returns onto-requires onto-requires-2 returns-2)
+after-spec = tie.close (tie.spec (λ c κs. search needs) returns (λ c κs. search needs) (λ c κs. search needs) returns-2)

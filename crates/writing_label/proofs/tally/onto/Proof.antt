@@ -1,16 +1,9 @@
 -- `writing_label::tally::onto` meets its contract. Assumes nothing.
-use native.Mathlib.Omega.{arith}
 use Prim.Native.Nat.{_-_}
 use borrow.Author.Tests.{le-leb, lt-leb}
 use borrow.Author.Needs.{needs}
 use Rattle.writing_label.proofs.tally.onto.Statement.{statement}
 use Rattle.writing_label.proofs.tally.onto.Tie as tie
-
-sub-if1 : tie.Need-sub-if1
-sub-if1 c = search needs
-
-add-result : tie.Need-add-result
-add-result c = search needs
 
 returns : tie.Need-returns
 returns c = simp (le-leb (c .before .args .n) (18446744073709551615 - c .before .args .a) (c .if1 .taken))
@@ -19,4 +12,4 @@ returns-2 : tie.Need-returns-2
 returns-2 c = simp (lt-leb (c .before .args .n) (18446744073709551615 - c .before .args .a) (c .if1 .left))
 
 pub onto-spec : {M : Type 1} → statement M
-onto-spec = tie.close (tie.spec sub-if1 add-result returns returns-2)
+onto-spec = tie.close (tie.spec (λ c. search needs) (λ c. search needs) returns returns-2)

@@ -10,15 +10,6 @@ use Rattle.writing_label.proofs.turn.turn.Tie as tie
 returns : tie.Need-returns
 returns c = record { is = simp (c .if1 .taken); small = λ h. absurd (true≢false (sym (c .if1 .taken) ∙ h)) }
 
-put-plain-requires : tie.Need-put-plain-requires
-put-plain-requires c κs = search needs
-
-after-requires : tie.Need-after-requires
-after-requires c κs = search needs
-
-same-length : tie.Need-same-length
-same-length c = search needs
-
 returns-2 : tie.Need-returns-2
 returns-2 c =
     let s = c .before .before .before .before .before .before .before .before in
@@ -33,7 +24,7 @@ turn-spec =
     tie.close
     (tie.spec
     returns
-    put-plain-requires
-    after-requires
-    same-length
+    (λ c κs. search needs)
+    (λ c κs. search needs)
+    (λ c. search needs)
     returns-2)

@@ -4,15 +4,6 @@ use borrow.Author.Needs.{needs}
 use Rattle.writing_limits.proofs.fine.fine_bytes.Statement.{statement}
 use Rattle.writing_limits.proofs.fine.fine_bytes.Tie as tie
 
-holds-requires : tie.Need-holds-requires
-holds-requires c κs = search needs
-
-holds-requires-2 : tie.Need-holds-requires-2
-holds-requires-2 c κs = search needs
-
-is-line-text-requires : tie.Need-is-line-text-requires
-is-line-text-requires c κs = search needs
-
 returns : tie.Need-returns
 returns c = rw (c .match .keys1)
 
@@ -29,9 +20,9 @@ pub fine-bytes-spec : {M : Type 1} → statement M
 fine-bytes-spec =
     tie.close
     (tie.spec
-    holds-requires
-    holds-requires-2
-    is-line-text-requires
+    (λ c κs. search needs)
+    (λ c κs. search needs)
+    (λ c κs. search needs)
     returns
     returns-2
     returns-3

@@ -4,51 +4,6 @@ use borrow.Author.Needs.{needs}
 use Rattle.writing_limits.proofs.fine.fine_numbers.Statement.{statement}
 use Rattle.writing_limits.proofs.fine.fine_numbers.Tie as tie
 
-fine-font-requires : tie.Need-fine-font-requires
-fine-font-requires c κs = search needs
-
-fine-box-requires : tie.Need-fine-box-requires
-fine-box-requires c κs = search needs
-
-fine-diagonal-requires : tie.Need-fine-diagonal-requires
-fine-diagonal-requires c κs = search needs
-
-fine-rows-requires : tie.Need-fine-rows-requires
-fine-rows-requires c κs = search needs
-
-fine-bars-requires : tie.Need-fine-bars-requires
-fine-bars-requires c κs = search needs
-
-fine-ratio-requires : tie.Need-fine-ratio-requires
-fine-ratio-requires c κs = search needs
-
-fine-bars-requires-2 : tie.Need-fine-bars-requires-2
-fine-bars-requires-2 c κs = search needs
-
-fine-ratio-requires-2 : tie.Need-fine-ratio-requires-2
-fine-ratio-requires-2 c κs = search needs
-
-fine-pdf417-requires : tie.Need-fine-pdf417-requires
-fine-pdf417-requires c κs = search needs
-
-in-range-requires : tie.Need-in-range-requires
-in-range-requires c κs = search needs
-
-fine-size-requires : tie.Need-fine-size-requires
-fine-size-requires c κs = search needs
-
-fine-datamatrix-requires : tie.Need-fine-datamatrix-requires
-fine-datamatrix-requires c κs = search needs
-
-fine-qr-requires : tie.Need-fine-qr-requires
-fine-qr-requires c κs = search needs
-
-fine-mode-requires : tie.Need-fine-mode-requires
-fine-mode-requires c κs = search needs
-
-fine-bars-requires-3 : tie.Need-fine-bars-requires-3
-fine-bars-requires-3 c κs = search needs
-
 returns : tie.Need-returns
 returns c = simp (eq-eqb (c .before .before .before .args .e .kind) 1 (c .before .match .keys1)) (c .fine-font .ensures)
 
@@ -92,21 +47,21 @@ pub fine-numbers-spec : {M : Type 1} → statement M
 fine-numbers-spec =
     tie.close
     (tie.spec
-    fine-font-requires
-    fine-box-requires
-    fine-diagonal-requires
-    fine-rows-requires
-    fine-bars-requires
-    fine-ratio-requires
-    fine-bars-requires-2
-    fine-ratio-requires-2
-    fine-pdf417-requires
-    in-range-requires
-    fine-size-requires
-    fine-datamatrix-requires
-    fine-qr-requires
-    fine-mode-requires
-    fine-bars-requires-3
+    (λ c κs. search needs)
+    (λ c κs. search needs)
+    (λ c κs. search needs)
+    (λ c κs. search needs)
+    (λ c κs. search needs)
+    (λ c κs. search needs)
+    (λ c κs. search needs)
+    (λ c κs. search needs)
+    (λ c κs. search needs)
+    (λ c κs. search needs)
+    (λ c κs. search needs)
+    (λ c κs. search needs)
+    (λ c κs. search needs)
+    (λ c κs. search needs)
+    (λ c κs. search needs)
     returns
     returns-2
     returns-3

@@ -3,14 +3,8 @@ use borrow.Author.Needs.{needs}
 use Rattle.writing_limits.proofs.fine.fine_qr.Statement.{statement}
 use Rattle.writing_limits.proofs.fine.fine_qr.Tie as tie
 
-in-range-requires : tie.Need-in-range-requires
-in-range-requires c κs = search needs
-
-decoded-len-requires : tie.Need-decoded-len-requires
-decoded-len-requires c κs = search needs
-
 returns : tie.Need-returns
 returns c = rw (c .before .in-range .ensures, c .decoded-len .ensures)
 
 pub fine-qr-spec : {M : Type 1} → statement M
-fine-qr-spec = tie.close (tie.spec in-range-requires decoded-len-requires returns)
+fine-qr-spec = tie.close (tie.spec (λ c κs. search needs) (λ c κs. search needs) returns)

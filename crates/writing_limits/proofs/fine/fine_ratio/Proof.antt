@@ -5,18 +5,6 @@ use borrow.Author.Needs.{needs}
 use Rattle.writing_limits.proofs.fine.fine_ratio.Statement.{statement}
 use Rattle.writing_limits.proofs.fine.fine_ratio.Tie as tie
 
-field-at-requires : tie.Need-field-at-requires
-field-at-requires c κs = search needs
-
-field-at-requires-2 : tie.Need-field-at-requires-2
-field-at-requires-2 c κs = search needs
-
-bar-ratio-requires : tie.Need-bar-ratio-requires
-bar-ratio-requires c κs = search needs
-
-same-bits-requires : tie.Need-same-bits-requires
-same-bits-requires c κs = search needs
-
 returns : tie.Need-returns
 returns c =
     let a = c .before .before .before .field-at in
@@ -26,4 +14,4 @@ returns c =
 pub fine-ratio-spec : {M : Type 1} → statement M
 fine-ratio-spec =
     tie.close
-    (tie.spec field-at-requires field-at-requires-2 bar-ratio-requires same-bits-requires returns)
+    (tie.spec (λ c κs. search needs) (λ c κs. search needs) (λ c κs. search needs) (λ c κs. search needs) returns)

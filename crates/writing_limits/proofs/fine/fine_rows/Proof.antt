@@ -4,19 +4,10 @@ use borrow.Author.Needs.{needs}
 use Rattle.writing_limits.proofs.fine.fine_rows.Statement.{statement}
 use Rattle.writing_limits.proofs.fine.fine_rows.Tie as tie
 
-in-range-requires : tie.Need-in-range-requires
-in-range-requires c κs = search needs
-
-field-at-requires : tie.Need-field-at-requires
-field-at-requires c κs = search needs
-
-is-rows-requires : tie.Need-is-rows-requires
-is-rows-requires c κs = search needs
-
 returns : tie.Need-returns
 returns c =
     let a = c .before .field-at in
     rw (c .before .before .in-range .ensures, rw (back32 (a .result) (a .ok), a .ensures) at (c .is-rows .ensures))
 
 pub fine-rows-spec : {M : Type 1} → statement M
-fine-rows-spec = tie.close (tie.spec in-range-requires field-at-requires is-rows-requires returns)
+fine-rows-spec = tie.close (tie.spec (λ c κs. search needs) (λ c κs. search needs) (λ c κs. search needs) returns)

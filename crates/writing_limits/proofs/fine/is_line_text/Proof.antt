@@ -3,11 +3,8 @@ use borrow.Author.Needs.{needs}
 use Rattle.writing_limits.proofs.fine.is_line_text.Statement.{statement}
 use Rattle.writing_limits.proofs.fine.is_line_text.Tie as tie
 
-find-requires : tie.Need-find-requires
-find-requires c κs = search needs
-
 returns : tie.Need-returns
 returns c = rw (c .find .ensures .is)
 
 pub is-line-text-spec : {M : Type 1} → statement M
-is-line-text-spec = tie.close (tie.spec find-requires returns)
+is-line-text-spec = tie.close (tie.spec (λ c κs. search needs) returns)

@@ -14,12 +14,6 @@ returns c = simp (eq-eqb (c .before .args .len) 0 (c .if1 .taken))
 returns-2 : tie.Need-returns-2
 returns-2 c = simp (ne-eqb (c .before .before .args .len) 0 (c .before .if1 .left), rw (toZ-ofZ (c .before .before .fits .row)) at (c .if2 .taken))
 
-bits-requires : tie.Need-bits-requires
-bits-requires c κs = search needs
-
-cast-result : tie.Need-cast-result
-cast-result c = search needs
-
 rem-result : tie.Need-rem-result
 rem-result c =
     let a = c .before .before .before in
@@ -36,4 +30,4 @@ returns-3 c =
 
 pub is-rows-spec : {M : Type 1} → statement M
 is-rows-spec =
-    tie.close (tie.spec returns returns-2 bits-requires cast-result rem-result returns-3)
+    tie.close (tie.spec returns returns-2 (λ c κs. search needs) (λ c. search needs) rem-result returns-3)

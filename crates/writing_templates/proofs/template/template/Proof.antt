@@ -1,7 +1,5 @@
 -- `writing_templates::template::template` meets its contract, arm by arm. Assumes nothing.
-use mathlib.Core.Path.{_≡_, sym, ap, subst, _∙_, refl}
-use mathlib.Core.List.{List}
-use Prim.Native.Nat.{ℕ}
+use mathlib.Core.Path.{sym}
 use Rattle.writing_templates.specs.Template.{template}
 use Rattle.writing_templates.proofs.TemplateLaws.{template-other}
 use Rattle.writing_templates.proofs.template.template.Statement.{statement}
