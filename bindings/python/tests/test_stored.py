@@ -26,7 +26,8 @@ def distinct():
     """The rows of crates/laddertick/specs/Distinct.antt that are one command at 100,200 and its frame."""
     text = (REPOSITORY / "crates" / "laddertick" / "specs" / "Distinct.antt").read_text(encoding="utf-8")
     for command, row in re.findall(r'alone "((?:[^"\\]|\\.)*)"\s+"([0-9a-f ]+)"', text):
-        # A character of the table is a byte.
+        # A character of the table is a byte, some by their hexadecimal numbers.
+        command = re.sub(r"\\u\{([0-9a-f]+)\}", lambda number: chr(int(number[1], 16)), command)
         yield command.replace('\\"', '"').encode("latin-1"), row.replace(" ", "")
 
 

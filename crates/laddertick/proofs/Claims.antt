@@ -103,6 +103,7 @@ use Rattle.dots.proofs.LengthLaws.{to300-near, to300-nearest, nearest-to300, to
 use Rattle.dots.specs.Length.{Nearest}
 use Rattle.laddertick.proofs.ResolutionLaws.{resolution, to-300-keeps, long-to-300}
 use Rattle.laddertick.proofs.Converted as converted
+use Rattle.laddertick.proofs.Written as written
 use Rattle.laddertick.proofs.WritingLaws.{writing}
 
 -- a frame looks only at the bytes of its own unit, wherever they stand
@@ -434,6 +435,7 @@ claims library = record {
     changed = changed;
     laid = laid.lying;
     converted = converted.converted;
+    written = written.written;
   };
   sized = calls.sized library;
   demand3 = demand-of library;

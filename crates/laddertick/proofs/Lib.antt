@@ -7,6 +7,7 @@ pub mod Joined
 pub mod Changed
 pub mod Lying
 pub mod Converted
+pub mod Written
 -- `LE` beside `LO`
 pub mod ColouredLaws
 -- data lies inside; sizes and ratios are those of an element's fields

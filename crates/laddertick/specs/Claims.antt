@@ -100,6 +100,7 @@ use Rattle.walk_theory.specs.Labels.{flush}
 use Rattle.grammar.specs.Epl.{EplPrint}
 use Rattle.line_changes.specs.OneLine.{Ending, unitOf, Replaced, Quiet, Is, Between, Next, saysOf, atHand, InLabel, Counted}
 use Rattle.laddertick.specs.Lying as laid
+use Rattle.laddertick.specs.Written as written
 use Rattle.laddertick.specs.Writing.{Writing}
 
 -- "the string divides end to end into graphic blocks and command lines by 01's grammar with every position and size
@@ -225,6 +226,8 @@ pub record Demand2 : Type 0 where
   pub laid : laid.Holds laid.table
   -- and labels converted to 300 dots
   pub converted : Holds converted.table
+  -- and labels as they are written, character by character
+  pub written : written.Holds written.table
 
 -- the normalised text of a string that divides and has these labels and n elements pending at its end
 pub record Normalising (library : Library) (s : List ℕ) (ls : List FramedLabel) (n : ℕ) : Type 0 where

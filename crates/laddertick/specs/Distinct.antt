@@ -1,7 +1,7 @@
 -- A file for each command and type, with all its fields set and distinct, and the lines that `list` writes for it,
 -- character by character (01, "Frames"), so that no two fields can change places in a reader, a frame and their
--- definitions together; then files that pin what readers and grammar share: defaults, least values, fonts, flags, data,
--- blanks, prints. `distinct` (proofs/Distinct.antt): every row holds.
+-- definitions together; then files that pin what readers and grammar share: defaults, least values, fonts, flags,
+-- parameters of `b`, data, blanks, prints. `distinct` (proofs/Distinct.antt): every row holds.
 use mathlib.Core.Bool.{cond}
 use mathlib.Core.List.{List, [], _∷_}
 use Prim.Native.Char.{code}
@@ -147,6 +147,75 @@ table =
     "01 00000064 000000c8 00 00 00000001 00000001 00000001 4028000000000000 4028000000000000 00000001 78"
     ∷ alone "B0,0,0,1,1,1,1, B ,\"x\"" "05 00000064 000000c8 00 00000001 00000001 01 02 00000001 78"
     ∷ alone "B0,0,0,1,1,1,1,b,\"x\"" "05 00000064 000000c8 00 00000001 00000001 00 02 00000001 78"
+    -- The parameters of `b`: "their meaning is that of `parse_epl_2d_barcode`". Aztec: the nearest `d` of 1 to 55; `e`
+    -- 1 to 99, 101 to 104, 201 to 232 and 300 stand, and any other is 0
+    ∷ alone "b,,A,d0,e1\"x\"" "0c 00000064 000000c8 00000001 00000001 00000001 78"
+    ∷ alone "b,,A,d1,e99\"x\"" "0c 00000064 000000c8 00000001 00000063 00000001 78"
+    ∷ alone "b,,A,d55,e101\"x\"" "0c 00000064 000000c8 00000037 00000065 00000001 78"
+    ∷ alone "b,,A,d56,e104\"x\"" "0c 00000064 000000c8 00000037 00000068 00000001 78"
+    ∷ alone "b,,A,d2147483647,e201\"x\"" "0c 00000064 000000c8 00000037 000000c9 00000001 78"
+    ∷ alone "b,,A,d7,e232\"x\"" "0c 00000064 000000c8 00000007 000000e8 00000001 78"
+    ∷ alone "b,,A,d8,e300\"x\"" "0c 00000064 000000c8 00000008 0000012c 00000001 78"
+    ∷ alone "b,,A,d9,e100\"x\"" "0c 00000064 000000c8 00000009 00000000 00000001 78"
+    ∷ alone "b,,A,d10,e105\"x\"" "0c 00000064 000000c8 0000000a 00000000 00000001 78"
+    ∷ alone "b,,A,d11,e200\"x\"" "0c 00000064 000000c8 0000000b 00000000 00000001 78"
+    ∷ alone "b,,A,d12,e233\"x\"" "0c 00000064 000000c8 0000000c 00000000 00000001 78"
+    ∷ alone "b,,A,d13,e299\"x\"" "0c 00000064 000000c8 0000000d 00000000 00000001 78"
+    ∷ alone "b,,A,d14,e301\"x\"" "0c 00000064 000000c8 0000000e 00000000 00000001 78"
+    -- the last that is a number counts, also where it is none of the sizes; a letter, a number beyond 32 bits and one
+    -- with a sign are none; several in a field, blanks around them, a blank before the number, letters of no meaning
+    ∷ alone "b,,A,d9,d4,e5,e100\"x\"" "0c 00000064 000000c8 00000004 00000000 00000001 78"
+    ∷ alone "b,,A,d9,dX,e5,e\"x\"" "0c 00000064 000000c8 00000009 00000005 00000001 78"
+    ∷ alone "b,,A,d9,d2147483648,e5,e-7\"x\"" "0c 00000064 000000c8 00000009 00000005 00000001 78"
+    ∷ alone "b,,A, d4 e15 \"x\"" "0c 00000064 000000c8 00000004 0000000f 00000001 78"
+    ∷ alone "b,,A,d 4,f9e15m\"x\"" "0c 00000064 000000c8 00000003 0000000f 00000001 78"
+    -- Data Matrix: the nearest `h` of 1 to 40; `c` and `r` are any number, 0 where the last is none
+    ∷ alone "b,,D,h0,c2,r3\"x\"" "0d 00000064 000000c8 00000001 00000002 00000003 00000001 78"
+    ∷ alone "b,,D,h40,c2147483647,r0\"x\"" "0d 00000064 000000c8 00000028 7fffffff 00000000 00000001 78"
+    ∷ alone "b,,D,h41,c5,r2147483648\"x\"" "0d 00000064 000000c8 00000028 00000005 00000000 00000001 78"
+    ∷ alone "b,,D,hX,c5,cX,r6,r\"x\"" "0d 00000064 000000c8 00000005 00000000 00000000 00000001 78"
+    ∷ alone "b,,D,h7h,c5c6,r8r9\"x\"" "0d 00000064 000000c8 00000007 00000006 00000009 00000001 78"
+    -- PDF417: the nearest `x` of 2 to 9; the nearest `y` of 4 to 99, four modules by default; the nearest `s` of 1 to
+    -- 8, -1 by default; `o` 1 to 3, or 0; `t` is 1 where the last is exactly that; `l` and `r` as `c` and `r` above
+    ∷ alone "b,,P,x1,s0,o1,l5,r6\"x\""
+    "0b 00000064 000000c8 01 00000008 00000001 00000005 00000006 00 00000002 00000001 78"
+    ∷ alone "b,,P,x2,y3,s1,o2,l7,t1\"x\""
+    "0b 00000064 000000c8 02 00000004 00000001 00000007 00000000 01 00000002 00000001 78"
+    ∷ alone "b,,P,x9,y4,s8,o4,r7,t0\"x\""
+    "0b 00000064 000000c8 00 00000004 00000008 00000000 00000007 00 00000009 00000001 78"
+    ∷ alone "b,,P,x10,y99,s9,o3,t11\"x\""
+    "0b 00000064 000000c8 03 00000063 00000008 00000000 00000000 00 00000009 00000001 78"
+    ∷ alone "b,,P,x3,y100,t1,t\"x\""
+    "0b 00000064 000000c8 00 00000063 ffffffff 00000000 00000000 00 00000003 00000001 78"
+    ∷ alone "b,,P,x4,xX,y,s7,s,o3,oX,l5,lX,r6,r2147483648,t0,t1\"x\""
+    "0b 00000064 000000c8 03 00000010 00000007 00000000 00000000 01 00000004 00000001 78"
+    -- QR: the nearest `s` of 1 to 100; the last `e` with `L`, `M`, `Q` or `H`, a letter behind `e` being its value and
+    -- no letter of its own
+    ∷ alone "b,,Q,s0,eL\"x\"" "0e 00000064 000000c8 00000001 4c 00000001 78"
+    ∷ alone "b,,Q,s100,eQ\"x\"" "0e 00000064 000000c8 00000064 51 00000001 78"
+    ∷ alone "b,,Q,s101,eM\"x\"" "0e 00000064 000000c8 00000064 4d 00000001 78"
+    ∷ alone "b,,Q,s5,sX,eH,e1,eX\"x\"" "0e 00000064 000000c8 00000005 48 00000001 78"
+    ∷ alone "b,,Q,s6eHs9,eLQ\"x\"" "0e 00000064 000000c8 00000009 4c 00000001 78"
+    -- "MaxiCode with no `m`, or whose last `m` isn't 2, 3, 4 or 6: .. If [the header] first stands at 6 or later in the
+    -- decoded data, mode 2 when the bytes from 6 up to it are digits and at least one, else 3; otherwise mode 4"
+    ∷ alone "b,,M,m2\"x\"" "0f 00000064 000000c8 00000002 00000001 78"
+    ∷ alone "b,,M,m3\"x\"" "0f 00000064 000000c8 00000003 00000001 78"
+    ∷ alone "b,,M,m5,m4\"12345678[)>\u{1e}01\u{1d}\""
+    "0f 00000064 000000c8 00000004 0000000f 31323334353637385b293e1e30311d"
+    ∷ alone "b,,M\"12345678[)>\u{1e}01\u{1d}\"" "0f 00000064 000000c8 00000002 0000000f 31323334353637385b293e1e30311d"
+    ∷ alone "b,,M,m6,m5\"12345678[)>\u{1e}01\u{1d}\""
+    "0f 00000064 000000c8 00000002 0000000f 31323334353637385b293e1e30311d"
+    ∷ alone "b,,M,m2,m\"123456[)>\u{1e}01\u{1d}\"" "0f 00000064 000000c8 00000003 0000000d 3132333435365b293e1e30311d"
+    ∷ alone "b,,M,m0\"1234567A[)>\u{1e}01\u{1d}\""
+    "0f 00000064 000000c8 00000003 0000000f 31323334353637415b293e1e30311d"
+    ∷ alone "b,,M\"12345[)>\u{1e}01\u{1d}[)>\u{1e}01\u{1d}\""
+    "0f 00000064 000000c8 00000004 00000013 31323334355b293e1e30311d5b293e1e30311d"
+    ∷ alone "b,,M,mX\"12345678[)>\u{1e}01\"" "0f 00000064 000000c8 00000004 0000000e 31323334353637385b293e1e3031"
+    -- places are those of the decoded data, where hexadecimal ff has three bytes: the 4 stands at 6, the header at 5;
+    -- "where byte 6 is inside a character; here that gives 3"
+    ∷ alone "b,,M\"123ÿ4[)>\u{1e}01\u{1d}\"" "0f 00000064 000000c8 00000002 0000000e 313233efbfbd345b293e1e30311d"
+    ∷ alone "b,,M\"12ÿ[)>\u{1e}01\u{1d}\"" "0f 00000064 000000c8 00000004 0000000c 3132efbfbd5b293e1e30311d"
+    ∷ alone "b,,M\"12345Ã©[)>\u{1e}01\u{1d}\"" "0f 00000064 000000c8 00000003 0000000e 3132333435c3a95b293e1e30311d"
     -- "Data is decoded as `from_utf8_lossy` does": hexadecimal e9 alone, and c3 a9
     ∷ alone "b0,0,M\"éÃ©\"" "0f 00000064 000000c8 00000004 00000005 efbfbdc3a9"
     -- "data lies between the first and last quote"; "trailing commas dropped"

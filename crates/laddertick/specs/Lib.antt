@@ -24,3 +24,5 @@ pub mod Lying
 -- 01, "From 203 to 300 dots": an opened label's elements with their places; labels converted
 pub mod Framed
 pub mod Converted
+-- 01, "Writing EPL": labels written
+pub mod Written
