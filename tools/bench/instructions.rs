@@ -70,7 +70,7 @@ pub fn instructions() {
     calls("Instructions a byte of a file that is one label", "whole", [small, middle], |count, size| format!("{:.2}", count / size as f64));
     targets::begin();
     targets::index(|kind| a_byte[&("index", kind)] / a_byte[&("walk", kind)]);
-    targets::one_label(&one);
+    targets::one_label(1.05, &one);
     for Function { name, .. } in LINEAR {
         let most = targets::most(KINDS.iter().filter_map(|kind| grown.get(&(name, kind.name)).copied()));
         targets::at_most(16.5, &format!("{name} on every input, sixteen times the bytes"), most);

@@ -28,10 +28,10 @@ pub fn index(walks: impl Fn(&str) -> f64) {
 }
 
 /// Calls with the same label in files of several lengths, a row for each file: a length has no part in them.
-pub fn one_label(files: &[[f64; CALLS.len()]]) {
+pub fn one_label(limit: f64, files: &[[f64; CALLS.len()]]) {
     for (i, (name, _)) in CALLS.iter().enumerate() {
         let figures = files.iter().map(|calls| calls[i]);
-        at_most(1.05, &format!("{name}, one label in files of every size, the most, times the least"), most(figures.clone()) / least(figures));
+        at_most(limit, &format!("{name}, one label in files of every size, the most, times the least"), most(figures.clone()) / least(figures));
     }
 }
 

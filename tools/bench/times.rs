@@ -168,7 +168,7 @@ pub fn write() {
     let one = one_label();
     writing();
     targets::begin();
-    targets::one_label(&one);
+    targets::one_label(1.1, &one);
 }
 
 pub fn times() {
@@ -188,7 +188,7 @@ pub fn times() {
     at_least(2.0, "normalise on every input, times as fast as format_epl", least(all(texts)));
     at_most(2.5, "normalise on graphics, every size, times the time of a copy", most(all(copies)));
     targets::index(|kind| most(on(&indexes, kind)));
-    targets::one_label(&one);
+    targets::one_label(1.1, &one);
     at_most(2.5, "check on every input, times the time of the walk", most(all(checks)));
     at_most(2.2, "join on every input, times the time of its parts", most(all(joins)));
 }
