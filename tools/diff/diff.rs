@@ -24,6 +24,8 @@ use std::sync::atomic::{AtomicUsize, Ordering::Relaxed};
 use std::time::{Duration, Instant};
 
 const THREADS: usize = 2;
+/// Tokens of the longest short string, where no number is given.
+const TOKENS: usize = 6;
 /// Cases of one piece of work; its inputs hang on its number and the seed, not on the thread.
 const PIECE: usize = 10_000;
 /// Differences that are printed, the time to make one short, and the bytes of one.
@@ -34,7 +36,9 @@ const LONGEST_REPORT: usize = 10_000;
 fn main() {
     let mut words = std::env::args().skip(1);
     let millions: f64 = words.next().and_then(|word| word.parse().ok()).expect("how many millions");
-    let run = Run { seed: words.next().map_or(1, |word| word.parse().expect("a number")), ..Run::default() };
+    let seed = words.next().map_or(1, |word| word.parse().expect("a number"));
+    let tokens = words.next().map_or(TOKENS, |word| word.parse().expect("a number"));
+    let run = Run { seed, tokens, ..Run::default() };
     let pieces = short::SETTINGS.len() + 1 + (millions * 1e6) as usize / PIECE;
     std::thread::scope(|scope| {
         let threads: Vec<_> = (0..THREADS).map(|_| scope.spawn(|| run.work(pieces))).collect();
@@ -74,6 +78,7 @@ fn main() {
 #[derive(Default)]
 struct Run {
     seed: u64,
+    tokens: usize,
     next: AtomicUsize,
     cases: AtomicUsize,
     differences: AtomicUsize,
@@ -114,7 +119,7 @@ impl Run {
                 return;
             }
             match short::SETTINGS.get(piece) {
-                Some(setting) => setting.each(|input| self.case(&mut lent, input)),
+                Some(setting) => setting.each(self.tokens, |input| self.case(&mut lent, input)),
                 None if piece == short::SETTINGS.len() => long_inputs().iter().for_each(|input| self.case(&mut lent, input)),
                 None => {
                     let mut maker = Maker::new(self.seed << 32 | piece as u64, 0);

@@ -1,6 +1,4 @@
-//! All strings of up to six tokens over small alphabets, between a head and a tail that make what they do visible.
-
-pub const LONGEST: usize = 6;
+//! All strings of up to some tokens over small alphabets, between a head and a tail that make what they do visible.
 
 pub struct Setting {
     head: &'static [u8],
@@ -9,10 +7,10 @@ pub struct Setting {
 }
 
 impl Setting {
-    /// Calls f on every string of the setting.
-    pub fn each(&self, mut f: impl FnMut(&[u8])) {
+    /// Calls f on every string of the setting of up to so many tokens.
+    pub fn each(&self, tokens: usize, mut f: impl FnMut(&[u8])) {
         let mut input = self.head.to_vec();
-        self.longer(LONGEST, &mut input, &mut f);
+        self.longer(tokens, &mut input, &mut f);
     }
 
     fn longer(&self, left: usize, input: &mut Vec<u8>, f: &mut impl FnMut(&[u8])) {

@@ -1,8 +1,13 @@
 //! A working copy of the repository below target/mutate, and what `rt check` says of an edit there.
 
+use std::collections::BTreeMap;
+use std::ffi::OsString;
 use std::fs;
 use std::path::{Path, PathBuf};
 use std::process::Command;
+
+/// Texts of files that an edit makes, by their paths from the repository's root on.
+pub type Texts<'a> = BTreeMap<&'a str, String>;
 
 /// What becomes of an edit.
 #[derive(Clone, Copy, PartialEq, Eq, Debug)]
@@ -34,6 +39,8 @@ pub const OUT_OF_TIME: i32 = 124;
 /// A folder with the crates and what `rt` keeps of their proofs.
 pub struct WorkingCopy {
     pub root: PathBuf,
+    /// The folder below a crate's incremental folder in which `rt dev` has the modules, where that is known.
+    pub modules: Option<OsString>,
 }
 
 impl WorkingCopy {
@@ -45,7 +52,7 @@ impl WorkingCopy {
             let status = Command::new("cp").arg("-a").arg(from.join(part)).arg(to.join(part)).status();
             assert!(status.is_ok_and(|s| s.success()), "{part} cannot be copied to {}", to.display());
         }
-        WorkingCopy { root: to.into() }
+        WorkingCopy { root: to.into(), modules: None }
     }
 
     pub fn is_program(&self, crate_name: &str) -> bool {
@@ -67,23 +74,29 @@ impl WorkingCopy {
         (String::from_utf8_lossy(&said).into_owned(), output.status.code())
     }
 
-    /// `rt check` of a crate with another text in one of its files: the verdict, and what `rt` said. Then all is as it was, the file, the
+    /// `rt check` of a crate with other texts in files of it: the verdict, and what `rt` said. Then all is as it was, the files, the
     /// stamp and the proved library.
-    pub fn verdict(&self, crate_name: &str, path: &str, new: &str, seconds: u64) -> (Verdict, String) {
-        let file = self.root.join("crates").join(crate_name).join(path);
+    pub fn verdict(&self, crate_name: &str, texts: &Texts, seconds: u64) -> (Verdict, String) {
         let stamp = self.root.join("target/stamp").join(crate_name);
         let library = self.root.join("target/rlib").join(format!("{crate_name}.rlib"));
         let kept = self.root.join("target/kept").join(crate_name);
-        let [old_text, old_stamp] = [&file, &stamp].map(|path| fs::read(path).expect("a file of the copy"));
+        let old_stamp = fs::read(&stamp).expect("the stamp");
         let is_library = fs::rename(&library, &kept).is_ok();
-        fs::write(&file, new).expect("the file of the edit");
-        let answer = self.verdict_as_it_stands(crate_name, seconds);
-        fs::write(&file, old_text).expect("the file of the edit");
+        let answer = self.with(texts, || self.verdict_as_it_stands(crate_name, seconds));
         let _ = fs::remove_dir_all(&library);
         if is_library {
             fs::rename(&kept, &library).expect("the proved library");
         }
         fs::write(&stamp, old_stamp).expect("the stamp");
+        answer
+    }
+
+    /// What is answered with other texts in some files, which are then as they were.
+    pub fn with<T>(&self, texts: &Texts, answer: impl FnOnce() -> T) -> T {
+        let old: Vec<Vec<u8>> = texts.keys().map(|path| fs::read(self.root.join(path)).expect("a file of the copy")).collect();
+        texts.iter().for_each(|(path, new)| self.write(path, new));
+        let answer = answer();
+        texts.keys().zip(old).for_each(|(path, text)| fs::write(self.root.join(path), text).expect("the file of the edit"));
         answer
     }
 

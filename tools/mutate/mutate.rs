@@ -11,8 +11,8 @@
 //! that changes nothing may be refused too, since the proof was written for the other form.
 //!
 //! tokens, source: the code as tokens and functions. body, edits: the edits that a function allows. plan: which are tried. check: what
-//! `rt check` says of one. warm: what `rt dev` says. run: the jobs. report: target/mutate/report.txt, and the page at the end. together: the modes `--together` and `--kept`, whose
-//! edits are written by hand: those of the first change definitions along with the code.
+//! `rt check` says of one. warm: what `rt dev` says. run: the jobs. report: target/mutate/report.txt, and the page at the end. together: the mode of that name, whose
+//! edits are written by hand and change definitions along with the code. wrong: wrong programs that are written by hand, `--wrong` and `--kept`.
 
 mod body;
 mod check;
@@ -24,6 +24,7 @@ mod source;
 mod together;
 mod tokens;
 mod warm;
+mod wrong;
 
 use check::{Verdict, WorkingCopy};
 use plan::{plan, Plan, Subject};
@@ -34,6 +35,11 @@ use std::collections::BTreeMap;
 use std::fs;
 use std::path::{Path, PathBuf};
 use std::process::exit;
+
+/// The folders of edits that are written by hand.
+const TOGETHER: &str = "together";
+const WRONG: &str = "wrong";
+const KEPT: &str = "kept";
 
 /// The seconds of a program's check: it has no library.
 const OF_A_PROGRAM: u64 = 25;
@@ -55,7 +61,7 @@ fn main() {
     let root = std::env::current_dir().expect("a current folder");
     let listed = source::listed_crates(&root);
     let options = options(&listed).unwrap_or_else(|| {
-        eprintln!("usage: tools/mutate/run [--crates A,B] [--most N | --each] [--jobs J] [--seed S] [--resume] [--both] [--plan]\n       tools/mutate/run --together | --kept [NAME..] [--jobs J]");
+        eprintln!("usage: tools/mutate/run [--crates A,B] [--most N | --each] [--jobs J] [--seed S] [--resume] [--both] [--plan]\n       tools/mutate/run --together | --wrong | --kept [NAME..] [--jobs J]");
         exit(2)
     });
     let sources = Sources::read(&root, &listed);
@@ -86,11 +92,15 @@ fn by_hand(root: &Path, folder: &str, names: &[String], seconds: &BTreeMap<Strin
         eprintln!("{faults}\nNOTHING WAS TRIED: these edits do not fit the files");
         exit(2)
     });
-    copies(root, &source::listed_crates(root), 1);
-    let folder = root.join("target/mutate").join(folder);
-    fs::create_dir_all(&folder).expect("a folder below target/mutate");
-    let (table, refused) = together::run(&root.join("target/mutate/0"), &folder, &edits, seconds, jobs);
-    fs::write(folder.join("summary.txt"), &table).expect("the summary");
+    let to = root.join("target/mutate").join(folder);
+    fs::create_dir_all(&to).expect("a folder below target/mutate");
+    let listed = source::listed_crates(root);
+    let (table, refused) = if folder == TOGETHER {
+        together::run(&copies(root, &listed, 1)[0].root, &to, &edits, seconds, jobs)
+    } else {
+        wrong::run(&copies(root, &listed, jobs), &to, &edits, seconds)
+    };
+    fs::write(to.join("summary.txt"), &table).expect("the summary");
     print!("{table}");
     !refused as i32
 }
@@ -108,8 +118,9 @@ fn options(listed: &[String]) -> Option<Options> {
             "--resume" => options.resume = true,
             "--both" => options.both = true,
             "--plan" => options.plan = true,
-            "--together" => options.by_hand = Some(("together", vec![])),
-            "--kept" => options.by_hand = Some(("kept", vec![])),
+            "--together" => options.by_hand = Some((TOGETHER, vec![])),
+            "--wrong" => options.by_hand = Some((WRONG, vec![])),
+            "--kept" => options.by_hand = Some((KEPT, vec![])),
             name if !name.starts_with('-') => options.by_hand.as_mut()?.1.push(name.into()),
             _ => return None,
         }
@@ -147,8 +158,10 @@ fn copies(root: &Path, crates: &[String], jobs: usize) -> Vec<WorkingCopy> {
         eprintln!("{said}the crates are not proved as they stand");
         exit(2);
     }
-    let others = (1..jobs).map(|job| WorkingCopy::make(&folder(0), &folder(job)));
-    others.chain([first]).collect()
+    let mut all: Vec<WorkingCopy> = (1..jobs).map(|job| WorkingCopy::make(&folder(0), &folder(job))).chain([first]).collect();
+    let modules = warm::modules(&mut all[0], &source::listed_crates(root)[0]);
+    all.iter_mut().for_each(|copy| copy.modules = modules.clone());
+    all
 }
 
 fn print_plan(sources: &Sources, plan: &Plan) {

@@ -63,7 +63,7 @@ impl Report {
     }
 
     pub fn filled(&self, crate_name: &str, proved: bool, seconds: f64) {
-        let words = if proved { "proved over an empty folder" } else { "NOT PROVED over an empty folder" };
+        let words = if proved { "proved over its incremental folder" } else { "NOT PROVED over its incremental folder" };
         self.write(FILLED, &format!("rt dev {seconds:.1} s"), &format!("{crate_name}: {words}"), "");
     }
 

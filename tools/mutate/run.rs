@@ -1,6 +1,6 @@
 //! The jobs: each takes the next crate of the plan and tries the edits of its functions in a copy of its own, over the crate's incremental folder.
 
-use crate::check::{Verdict, WorkingCopy};
+use crate::check::{Texts, Verdict, WorkingCopy};
 use crate::edits::Edit;
 use crate::plan::{Plan, Subject};
 use crate::report::{self, Report};
@@ -120,7 +120,7 @@ impl<'a> Run<'a> {
         Some(verdict)
     }
 
-    /// The unedited crate over an empty folder, before its first edit.
+    /// The unedited crate over its incremental folder, before its first edit.
     fn fill(&self, turn: &mut Turn<'a>) {
         if !turn.incremental || turn.warm.is_some() {
             return;
@@ -162,13 +162,14 @@ impl<'a> Run<'a> {
     /// What becomes of an edit, by which check and in what time, and what was said. `rt check` decides wherever `rt dev` does not refuse it.
     fn verdict(&self, turn: &Turn, subject: &Subject, edit: &Edit) -> (Verdict, String, String) {
         let file = &self.sources.files[subject.function.file];
-        let new = edit.made(file.text);
+        let path = format!("crates/{}/{}", turn.crate_name, file.path);
+        let texts = Texts::from([(path.as_str(), edit.made(file.text))]);
         let mut how = String::new();
         let mut all_said = String::new();
         let mut quick = None;
         if let Some(warm) = &turn.warm {
             let start = Instant::now();
-            let (verdict, said) = warm.verdict(&file.path, &new);
+            let (verdict, said) = warm.verdict(&texts);
             how = format!("rt dev {:.1} s", start.elapsed().as_secs_f64());
             all_said = said;
             quick = verdict;
@@ -177,7 +178,7 @@ impl<'a> Run<'a> {
             return (verdict, how, all_said);
         }
         let start = Instant::now();
-        let (verdict, said) = turn.copy.verdict(turn.crate_name, &file.path, &new, self.limit(turn.crate_name));
+        let (verdict, said) = turn.copy.verdict(turn.crate_name, &texts, self.limit(turn.crate_name));
         how += &format!("{}rt check {:.1} s", if how.is_empty() { "" } else { ", " }, start.elapsed().as_secs_f64());
         if let Some(other) = quick.filter(|v| *v != verdict) {
             eprintln!("rt dev and rt check DIFFER: {} and {}", report::word(other), report::word(verdict));

@@ -1,8 +1,8 @@
-//! Edits that are written by hand. Those of tools/mutate/kept are wrong programs, as must-fail edits are. Each file of tools/mutate/together makes a wrong reader whose code still meets its definition: both are
+//! Edits that are written by hand. Each file of tools/mutate/together makes a wrong reader whose code still meets its definition: both are
 //! edited alike, and proofs where they follow the code. The edited crates and then all that depend on them are checked, lowest first, up to the
 //! static library. What refuses the edit should be a law in the paper's words or a computed case; the table says what did.
 
-use crate::check::{Verdict, WorkingCopy};
+use crate::check::{Texts, Verdict, WorkingCopy};
 use crate::report::{self, Report};
 use crate::source;
 use std::collections::BTreeMap;
@@ -17,7 +17,7 @@ const LAST: &str = "laddertick_c";
 
 /// An edit as its file has it.
 pub struct Together {
-    name: String,
+    pub name: String,
     /// The sentence that it breaks.
     breaks: String,
     changes: Vec<Change>,
@@ -31,40 +31,55 @@ struct Change {
 }
 
 /// What became of an edit, by its number, and what refused it.
-struct Outcome {
-    edit: usize,
-    verdict: Verdict,
-    refused_by: String,
+pub struct Outcome {
+    pub edit: usize,
+    pub verdict: Verdict,
+    pub refused_by: String,
 }
 
-/// The named edits, or all, in the order of their names; or their faults, such as a text that is not in its file.
+/// The named edits of a folder, or all, in the order of their names; or their faults, such as a text that is not in its file. An edit in a folder of its own below it
+/// is of the crate of that name, and its files are that crate's.
 pub fn read(root: &Path, folder: &str, names: &[String]) -> Result<Vec<Together>, String> {
     let folder = root.join("tools/mutate").join(folder);
-    let files = fs::read_dir(&folder).expect("a folder of tools/mutate").flatten().map(|entry| entry.file_name().into_string().unwrap_or_default());
-    let mut all: Vec<String> = files.filter_map(|file| Some(file.strip_suffix(".edit")?.to_string())).collect();
-    all.sort();
-    let mut faults: Vec<String> = names.iter().filter(|name| !all.contains(name)).map(|name| format!("no edit has the name {name}")).collect();
-    all.retain(|name| names.is_empty() || names.contains(name));
-    let edits: Vec<Together> = all.iter().map(|name| parse(name, &fs::read_to_string(folder.join(format!("{name}.edit"))).expect("an edit"))).collect();
-    faults.extend(edits.iter().filter_map(|edit| Some(format!("{}: {}", edit.name, edit.made(root).err()?))));
+    let mut all = edits_in(&folder, "");
+    for name in names_in(&folder).iter().filter(|name| folder.join(name).is_dir()) {
+        all.extend(edits_in(&folder.join(name), name));
+    }
+    let known = |name: &String| all.iter().any(|edit| edit.name == *name);
+    let mut faults: Vec<String> = names.iter().filter(|name| !known(name)).map(|name| format!("no edit has the name {name}")).collect();
+    all.retain(|edit| names.is_empty() || names.contains(&edit.name));
+    faults.extend(all.iter().filter_map(|edit| Some(format!("{}: {}", edit.name, edit.made(root).err()?))));
     if faults.is_empty() {
-        Ok(edits)
+        Ok(all)
     } else {
         Err(faults.join("\n"))
     }
 }
 
-/// As a must-fail edit. Several `old:` in a row are one text of several lines, and so are several `new:`.
-fn parse(name: &str, text: &str) -> Together {
+fn names_in(folder: &Path) -> Vec<String> {
+    let mut names: Vec<String> = fs::read_dir(folder).expect("a folder of edits").flatten().filter_map(|entry| entry.file_name().into_string().ok()).collect();
+    names.sort();
+    names
+}
+
+/// The edits of a folder, of any crates or of one.
+fn edits_in(folder: &Path, crate_name: &str) -> Vec<Together> {
+    let (before, below) = if crate_name.is_empty() { (String::new(), String::new()) } else { (format!("{crate_name}/"), format!("crates/{crate_name}/")) };
+    let edit = |file: &String| Some(parse(&(before.clone() + file.strip_suffix(".edit")?), &below, &fs::read_to_string(folder.join(file)).expect("an edit")));
+    names_in(folder).iter().filter_map(edit).collect()
+}
+
+/// As a must-fail edit, its files below a folder. Several `old:` in a row are one text of several lines, and so are several `new:`.
+fn parse(name: &str, below: &str, text: &str) -> Together {
     let mut edit = Together { name: name.into(), breaks: String::new(), changes: vec![] };
-    let (mut file, mut last) = ("", "");
+    let (mut file, mut last) = (String::new(), "");
     for line in text.lines() {
         let (word, rest) = line.split_once(' ').unwrap_or((line, ""));
         match (word, edit.changes.last_mut()) {
             ("#", _) if edit.breaks.is_empty() => edit.breaks = rest.into(),
-            ("file:", _) => file = rest,
+            ("file:", _) => file = format!("{below}{rest}"),
             ("old:", Some(change)) if last == word => change.old += &format!("\n{rest}"),
-            ("old:", _) => edit.changes.push(Change { file: file.into(), old: rest.into(), new: String::new() }),
+            ("old:", _) => edit.changes.push(Change { file: file.clone(), old: rest.into(), new: String::new() }),
             ("new:", Some(change)) if last == word => change.new += &format!("\n{rest}"),
             ("new:", Some(change)) => change.new = rest.into(),
             _ => {}
@@ -76,8 +91,8 @@ fn parse(name: &str, text: &str) -> Together {
 
 impl Together {
     /// The files with their new texts, or what is wrong.
-    fn made(&self, root: &Path) -> Result<BTreeMap<&str, String>, String> {
-        let mut texts: BTreeMap<&str, String> = BTreeMap::new();
+    pub fn made(&self, root: &Path) -> Result<Texts<'_>, String> {
+        let mut texts = Texts::new();
         for Change { file, old, new } in &self.changes {
             let text = match texts.get(file.as_str()) {
                 Some(text) => text.clone(),
@@ -89,6 +104,11 @@ impl Together {
             texts.insert(file, text.replacen(old.as_str(), new, 1));
         }
         (!texts.is_empty()).then_some(texts).ok_or("it changes nothing".into())
+    }
+
+    /// The crate of the first file that is edited.
+    pub fn crate_name(&self) -> &str {
+        self.changes[0].file.split('/').nth(1).unwrap_or("")
     }
 
     /// The crates whose files are edited and those that depend on them, in the order of crates.txt.
@@ -145,7 +165,7 @@ fn attempt(proved: &Path, copy: &WorkingCopy, edit: &Together, seconds: &BTreeMa
 }
 
 /// The first error's file and line, its words, and the names that the errors of that file stand in: a lemma that fails takes those that rest on it along.
-fn refused_by<'a>(said: &'a str) -> String {
+pub fn refused_by<'a>(said: &'a str) -> String {
     let error = |line: &'a str| -> Option<(&str, &str)> {
         let (place, words) = line.split_once("/crates/")?.1.split_once(": error: ")?;
         Some((place.rsplit_once(':')?.0, words))
@@ -160,7 +180,7 @@ fn refused_by<'a>(said: &'a str) -> String {
     format!("{place} ({}): {first}", names.join(", "))
 }
 
-fn table(edits: &[Together], outcomes: &[Outcome]) -> String {
+pub fn table(edits: &[Together], outcomes: &[Outcome]) -> String {
     let row = |outcome: &Outcome| {
         let Together { name, breaks, changes } = &edits[outcome.edit];
         let mut files: Vec<&str> = changes.iter().map(|change| change.file.trim_start_matches("crates/")).collect();

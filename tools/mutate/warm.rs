@@ -1,7 +1,8 @@
 //! A crate's incremental folder, over which `rt dev` checks again only what an edit touches: seconds instead of the crate's whole check. What it proves is
 //! no verdict, so an edit that it does not refuse goes to `rt check`.
 
-use crate::check::{Verdict, WorkingCopy, OUT_OF_TIME};
+use crate::check::{Texts, Verdict, WorkingCopy, OUT_OF_TIME};
+use std::ffi::OsString;
 use std::fs;
 use std::path::{Path, PathBuf};
 use std::process::Command;
@@ -16,11 +17,10 @@ pub struct Warm<'a> {
 }
 
 impl<'a> Warm<'a> {
-    /// Checks the unedited crate over an empty folder; what `rt` said where it is not proved there.
+    /// Checks the unedited crate over the modules of its proof, or over an empty folder where they cannot be had; what `rt` said where it is not proved there.
     pub fn fill(copy: &'a WorkingCopy, crate_name: &'a str, limit: u64) -> Result<Warm<'a>, String> {
-        let warm = Warm { copy, crate_name, limit, scratch: scratch(&copy.root) };
-        warm.clear();
-        warm.scratch.iter().for_each(|folder| fs::create_dir_all(folder).expect("a folder in memory"));
+        let warm = Warm::new(copy, crate_name, limit);
+        warm.seed();
         let (said, proved) = warm.unedited();
         if !proved {
             return Err(said);
@@ -29,15 +29,28 @@ impl<'a> Warm<'a> {
         Ok(warm)
     }
 
-    /// `rt dev` of the crate with another text in one of its files, and what it said. No verdict where it gave none.
-    pub fn verdict(&self, path: &str, new: &str) -> (Option<Verdict>, String) {
+    /// Takes the modules of the crate's proof as they are, unchecked: for one that was proved just before. As `fill` where they cannot be had.
+    pub fn take(copy: &'a WorkingCopy, crate_name: &'a str, limit: u64) -> Result<Warm<'a>, String> {
+        if copy.modules.is_none() {
+            return Warm::fill(copy, crate_name, limit);
+        }
+        let warm = Warm::new(copy, crate_name, limit);
+        warm.seed();
+        fs::rename(warm.folder(), warm.kept()).expect("the incremental folder");
+        Ok(warm)
+    }
+
+    fn new(copy: &'a WorkingCopy, crate_name: &'a str, limit: u64) -> Warm<'a> {
+        let warm = Warm { copy, crate_name, limit, scratch: scratch(&copy.root) };
+        warm.clear();
+        warm.scratch.iter().for_each(|folder| fs::create_dir_all(folder).expect("a folder in memory"));
+        warm
+    }
+
+    /// `rt dev` of the crate with other texts in files of it, and what it said. No verdict where it gave none.
+    pub fn verdict(&self, texts: &Texts) -> (Option<Verdict>, String) {
         self.reset();
-        let file = self.copy.root.join("crates").join(self.crate_name).join(path);
-        let old = fs::read(&file).expect("a file of the copy");
-        fs::write(&file, new).expect("the file of the edit");
-        let answer = self.dev();
-        fs::write(&file, old).expect("the file of the edit");
-        answer
+        self.copy.with(texts, || self.dev())
     }
 
     /// The control: whether the unedited crate is still proved over the folder as the edits found it.
@@ -61,6 +74,14 @@ impl<'a> Warm<'a> {
         let output = command.output().expect("the commands timeout and rt");
         let said = String::from_utf8_lossy(&[output.stderr, output.stdout].concat()).into_owned();
         (read(output.status.code(), &said), said)
+    }
+
+    /// The modules of the crate's proof, which its library has, as the incremental folder has them: a check from nothing would write the same.
+    fn seed(&self) {
+        let Some(modules) = &self.copy.modules else { return };
+        fs::create_dir_all(self.folder()).expect("the incremental folder");
+        let status = Command::new("cp").arg("-al").arg(checked(self.copy, self.crate_name)).arg(self.folder().join(modules)).status();
+        assert!(status.is_ok_and(|s| s.success()), "the modules of {} cannot be linked", self.crate_name);
     }
 
     /// The folder as it was filled. Links serve: the prover writes a module as a new file, and never into the old one.
@@ -107,6 +128,25 @@ fn read(status: Option<i32>, said: &str) -> Option<Verdict> {
         Some(OUT_OF_TIME) => Some(Verdict::Unclear),
         _ => None,
     }
+}
+
+/// Where a proved library has the modules of its proof.
+fn checked(copy: &WorkingCopy, crate_name: &str) -> PathBuf {
+    copy.root.join("target/rlib").join(format!("{crate_name}.rlib/toolchain/checked"))
+}
+
+/// The folder below an incremental one that has the modules: `rt dev` of one crate shows its name, which is the same for all. Nothing where the modules of that
+/// crate's proof are not in such a folder, or where it is not proved over them.
+pub fn modules(copy: &mut WorkingCopy, crate_name: &str) -> Option<OsString> {
+    let found = {
+        let warm = Warm::fill(copy, crate_name, 600).ok()?;
+        let names: Vec<OsString> = fs::read_dir(checked(copy, crate_name)).ok()?.flatten().map(|entry| entry.file_name()).collect();
+        let has_all = |folder: &fs::DirEntry| !names.is_empty() && names.iter().all(|name| folder.path().join(name).exists());
+        fs::read_dir(warm.kept()).ok()?.flatten().find(has_all)?.file_name()
+    };
+    copy.modules = Some(found);
+    let proved = Warm::fill(copy, crate_name, 600).is_ok();
+    copy.modules.take().filter(|_| proved)
 }
 
 const MEMORY: &str = "/dev/shm";
