@@ -5,8 +5,10 @@ mod compare;
 mod dots;
 mod index;
 mod join;
+mod lists;
 mod lying;
 mod made;
+mod measured;
 #[path = "../../bindings/rust/src/raw.rs"]
 mod raw;
 mod short;

@@ -1,6 +1,8 @@
 //! A label from 203 to 300 dots, from what the steps answer: the numbers, the places of the refused lines and the order of the checks are told anew, apart from the library.
 
 use crate::compare::{Lent, Seen};
+use crate::lists::{list_filled, unchanged};
+use crate::measured::measured;
 use crate::raw::{self, Dots300, Element, Element300, Entry, Label300, Walk};
 use crate::writing;
 
@@ -28,24 +30,12 @@ pub fn converted(lent: &mut Lent, input: &[u8], entries: &[Entry], number: usize
     Ok(())
 }
 
-/// The library answers as expected, fills the list from its start, and changes no other element.
 fn fills(lent: &mut Lent, input: &[u8], entries: &[Entry], number: usize, room: usize, expected: Label300, elements: &[Element300]) -> Result<(), String> {
     let mark = Element300 { kind: 99, x: Dots300(room as i32), data_len: usize::MAX, ..Element300::default() };
-    let mut due = vec![mark; room + 2];
-    due[1..][..elements.len()].copy_from_slice(elements);
-    let mut list = vec![mark; room + 2];
     let lent_input = lent.place(input);
-    let got = raw::to_300(lent_input, entries, number, &mut list[1..][..room]);
-    let wrong = if got != expected {
-        format!("{got:?} given, {expected:?} expected")
-    } else if list != due {
-        format!("the list is\n{list:?}\nand not\n{due:?}")
-    } else if lent_input != input {
-        "the input is changed".to_string()
-    } else {
-        return Ok(());
-    };
-    Err(format!("to 300 dots, room for {room}: {wrong}"))
+    list_filled(mark, room, expected, elements, |list| raw::to_300(lent_input, entries, number, list))
+        .and_then(|()| unchanged(lent_input, input))
+        .map_err(|wrong| format!("to 300 dots, {wrong}"))
 }
 
 /// The first label that the steps from a state print, which opening has answered: its sets, copies and new elements; or its refusal.
@@ -90,36 +80,6 @@ fn turned(e: &Element) -> Result<Element300, u8> {
         5..=10 | 16 => [same(e.width), nearest(e.height), same(0)],
         _ => [same(e.width), same(e.height), same(0)],
     };
-    Ok(Element300 {
-        x,
-        y,
-        width: width.ok_or(19)?,
-        height: height.ok_or(19)?,
-        thickness: thickness.ok_or(19)?,
-        kind: e.kind,
-        rotation: e.rotation,
-        reverse: e.reverse,
-        colour: e.colour,
-        direction: e.direction,
-        line: e.line,
-        check: e.check,
-        truncate: e.truncate,
-        level: e.level,
-        row_bytes: e.row_bytes,
-        security: e.security,
-        columns: e.columns,
-        rows: e.rows,
-        magnification: e.magnification,
-        size: e.size,
-        mode: e.mode,
-        font: e.font,
-        horizontal: e.horizontal,
-        vertical: e.vertical,
-        wide: e.wide,
-        text_height: e.text_height,
-        text_width: e.text_width,
-        ratio: e.ratio,
-        data_start: e.data_start,
-        data_len: e.data_len,
-    })
+    let [width, height, thickness] = [width.ok_or(19)?, height.ok_or(19)?, thickness.ok_or(19)?];
+    Ok(Element300 { x, y, width, height, thickness, ..measured(e, Dots300) })
 }

@@ -2,8 +2,9 @@
 //! library; a label's lines are those of the full listing. Entries that no index made are held beside the steps from their first place.
 
 use crate::compare::{answers, refused, written, Lent, Seen};
-use crate::lying;
 use crate::dots;
+use crate::lists::{list_filled, unchanged};
+use crate::lying;
 use crate::raw::{self, Entry, Walk, Written};
 use crate::steps;
 use oracle::{Answer, LIMIT};
@@ -41,24 +42,10 @@ fn filled(lent: &mut Lent, input: &[u8], entries: &[Entry]) -> Result<(), String
     Ok(())
 }
 
-/// The library answers as expected, fills the list from its start, and changes no other entry.
 fn fills(lent: &mut Lent, input: &[u8], room: usize, expected: Written, entries: &[Entry]) -> Result<(), String> {
     let mark = Entry { first: usize::MAX, last: room, count: 77, x: -7, y: i32::MIN };
-    let mut due = vec![mark; room + 2];
-    due[1..][..entries.len()].copy_from_slice(entries);
-    let mut list = vec![mark; room + 2];
     let lent_input = lent.place(input);
-    let got = raw::index(lent_input, &mut list[1..][..room]);
-    let wrong = if got != expected {
-        format!("{got:?} given, {expected:?} expected")
-    } else if list != due {
-        format!("the list is\n{list:?}\nand not\n{due:?}")
-    } else if lent_input != input {
-        "the input is changed".to_string()
-    } else {
-        return Ok(());
-    };
-    Err(format!("room for {room}: {wrong}"))
+    list_filled(mark, room, expected, entries, |list| raw::index(lent_input, list)).and_then(|()| unchanged(lent_input, input))
 }
 
 /// Each label by its number, with exactly enough room. One of them with other room too, and in a copy in which all bytes but its own are others and which ends where it ends. Then

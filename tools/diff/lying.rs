@@ -1,5 +1,6 @@
 //! What lies where on the labels of one input (01, "What lies where"), told anew from the frames that 01 gives for them, apart from the library.
 
+use crate::lists::list_filled;
 use crate::raw::{self, Entry, Rectangle, Written};
 
 /// What is told of an element: its position, and the width and height of a box or a diagonal. From a line of the listing.
@@ -60,15 +61,7 @@ fn fills(due: &[usize], of: impl Fn(&mut [usize]) -> Written) -> Result<(), Stri
     let n = due.len();
     for room in [n + 2, n, n.saturating_sub(1)] {
         let expected = if room < n { Written { number: 15, place: n } } else { Written { number: 0, place: n } };
-        let mut list = vec![usize::MAX - 7; room + 2];
-        let mut after = list.clone();
-        if room >= n {
-            after[1..][..n].copy_from_slice(due);
-        }
-        let got = of(&mut list[1..][..room]);
-        if got != expected || list != after {
-            return Err(format!("room for {room}: {got:?} and {list:?} given, {expected:?} and {after:?} expected"));
-        }
+        list_filled(usize::MAX - 7, room, expected, if room < n { &[] } else { due }, &of)?;
     }
     Ok(())
 }

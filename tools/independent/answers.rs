@@ -1,5 +1,6 @@
 //! What each entry point should answer, from the reading and the sentences of 02.
 
+use crate::measured::measured;
 use crate::raw::{Dots300, Element, Element300, Entry, Rectangle};
 use crate::reading::{first_label, normalised, refusal, whole, File, Label, Refusal, LIMIT};
 
@@ -169,41 +170,9 @@ pub fn to_300(input: &[u8], entries: &[Entry], number: usize) -> Result<(Label, 
             5..=10 | 16 => [Dots300(e.width), new(e.height, 19)?, Dots300(0)],
             _ => [Dots300(e.width), Dots300(e.height), Dots300(0)],
         };
-        list.push(Element300 { x, y, width, height, thickness, ..same(e) });
+        list.push(Element300 { x, y, width, height, thickness, ..measured(e, Dots300) });
     }
     Ok((label, list))
-}
-
-/// The fields that keep their values.
-pub fn same(e: &Element) -> Element300 {
-    Element300 {
-        kind: e.kind,
-        rotation: e.rotation,
-        reverse: e.reverse,
-        colour: e.colour,
-        direction: e.direction,
-        line: e.line,
-        check: e.check,
-        truncate: e.truncate,
-        level: e.level,
-        row_bytes: e.row_bytes,
-        security: e.security,
-        columns: e.columns,
-        rows: e.rows,
-        magnification: e.magnification,
-        size: e.size,
-        mode: e.mode,
-        font: e.font,
-        horizontal: e.horizontal,
-        vertical: e.vertical,
-        wide: e.wide,
-        text_height: e.text_height,
-        text_width: e.text_width,
-        ratio: e.ratio,
-        data_start: e.data_start,
-        data_len: e.data_len,
-        ..Element300::default()
-    }
 }
 
 /// K13: the joined text, or the refusal and the file that has it, 0 for neither.

@@ -6,6 +6,8 @@ mod change;
 mod held;
 mod lent;
 mod made;
+#[path = "../diff/measured.rs"]
+mod measured;
 #[path = "../diff/made.rs"]
 mod mixture;
 #[allow(dead_code)] // not every entry point has a case

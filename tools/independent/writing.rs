@@ -2,6 +2,7 @@
 
 use crate::held::{Case, Held, Same, OVER};
 use crate::made;
+use crate::measured::measured;
 use crate::raw::{self, Dots300, Element, Element300, Written};
 use crate::reading::{ratio, refusal, text_sizes, unit, whole, Refusal, Says, LIMIT};
 use crate::several;
@@ -312,7 +313,7 @@ impl Case {
         let (input, elements, counts) = self.label();
         let due = spelled_label(&input, &elements, counts)?;
         self.tell_label(&elements, counts, &due);
-        let list: Vec<Element300> = elements.iter().map(for_300).collect();
+        let list: Vec<Element300> = elements.iter().map(|e| measured(e, Dots300)).collect();
         self.writes(&input, &due, 15, |input, out| write_label_300(input, &list, counts, out)).map_err(|wrong| format!("{counts:?}, {elements:?}: {wrong}"))?;
         read_back(&input, &elements, counts, &due)
     }
@@ -359,11 +360,6 @@ fn read_back(input: &[u8], elements: &[Element], counts: (i32, i32), due: &Resul
         return Err(format!("the steps read \"{}\" as another label", text.escape_ascii()));
     }
     Ok(())
-}
-
-fn for_300(e: &Element) -> Element300 {
-    let [x, y, width, height, thickness] = [e.x, e.y, e.width, e.height, e.thickness].map(Dots300);
-    Element300 { x, y, width, height, thickness, ..crate::answers::same(e) }
 }
 
 /// The elements of an input's lines and blocks, each read at reference 0,0.
