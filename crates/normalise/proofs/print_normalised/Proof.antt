@@ -7,17 +7,18 @@ use Rattle.normalise.proofs.print_normalised.Tie as tie
 
 returns : tie.Need-returns
 returns c =
-    let k = c .before .before in
-    let t = k .before .before in
-    let a = t .before .before .before .args in
-    prints-long (a .input .now) (a .out .now) (dueOf (a .input .now)) (t .if1 .taken) (k .put-answer .ensures)
+    let put = c .before .before in
+    let long = put .before .before in
+    let a = long .before .before .before .args in
+    prints-long (a .input .now) (a .out .now) (dueOf (a .input .now)) (long .if1 .taken) (put .put-answer .ensures)
 
 returns-2 : tie.Need-returns-2
 returns-2 c =
-    let q = c .before .before in
-    let l = q .before .before .before .before in
-    let a = l .before .before .before .before .before .args in
-    prints-due (a .input .now) (a .out .now) (dueOf (a .input .now)) (l .before .before .if1 .left) (l .normalise .ensures) (q .put-answer2 .ensures)
+    let put = c .before .before in
+    let written = put .before .before .before .before in
+    let fits = written .before .before in
+    let a = fits .before .before .before .args in
+    prints-due (a .input .now) (a .out .now) (dueOf (a .input .now)) (fits .if1 .left) (written .normalise .ensures) (put .put-answer2 .ensures)
 
 pub print-normalised-spec : {M : Type 1} → statement M
 print-normalised-spec =

@@ -1,6 +1,6 @@
 -- `replay::replay` meets its contract. Measure: the bytes left. Assumes nothing.
 use mathlib.Core.Path.{_≡_, _∙_}
-use Prim.Native.Nat.{_+_, _-_, _≤_}
+use Prim.Native.Nat.{ℕ, _+_, _-_, _≤_}
 use native.Mathlib.Omega.{arith}
 use lib.ListN.{length}
 use borrow.Author.Tests.{leb-true}
@@ -14,17 +14,23 @@ Inv-loop cases out₀ at₀ out at = (at ≤ length cases) × (length out ≡ le
 abbrev μ-loop : tie.MeasureT-loop
 μ-loop cases out₀ at₀ out at = length cases - at
 
--- 4 bytes are left, and so many behind them
-four : (d : tie.Then1 Inv-loop μ-loop) → d .before .before .loop .at + 4 ≤ length (d .before .before .before .before .before .args .cases .now)
-four d =
-    let t : 4 ≤ length (d .before .before .before .before .before .args .cases .now) - d .before .before .loop .at = leb-true 4 (length (d .before .before .before .before .before .args .cases .now) - d .before .before .loop .at) (d .if1 .taken) in
-    omega (arith, t)
+module _ (turn : tie.Then1 Inv-loop μ-loop) where
+  abbrev head : tie.At-loop Inv-loop μ-loop
+  head = turn .before .before
 
-within : (d : tie.Else2 Inv-loop μ-loop) → d .before .before .before .before .before .loop .at + 4 + d .before .length-at .result ≤ length (d .before .before .before .before .before .before .before .before .args .cases .now)
+  abbrev all : ℕ
+  all = length (head .before .before .before .args .cases .now)
+
+  -- 4 bytes are left, and so many behind them
+  four : head .loop .at + 4 ≤ all
+  four = omega (arith, leb-true 4 (all - head .loop .at) (turn .if1 .taken))
+
+within : (d : tie.Else2 Inv-loop μ-loop) → head (d .before .before .before) .loop .at + 4 + d .before .length-at .result ≤ all (d .before .before .before)
 within d =
-    let t = four (d .before .before .before) in
-    let u : d .before .length-at .result ≤ length (d .before .before .before .before .before .before .before .before .args .cases .now) - (d .before .before .before .before .before .loop .at + 4) = d .if2 .left in
-    omega (arith, t, u)
+    let read = d .before in
+    let turn = read .before .before in
+    let u : read .length-at .result ≤ all turn - (head turn .loop .at + 4) = d .if2 .left in
+    omega (arith, four turn, u)
 
 loop-holds : tie.Need-loop-holds Inv-loop μ-loop
 loop-holds c = search needs
@@ -75,7 +81,10 @@ loop-less : tie.Need-loop-less Inv-loop μ-loop
 loop-less c = search needs
 
 loop-again : tie.Need-loop-again Inv-loop μ-loop
-loop-again c = (omega (arith, within (c .before .before .before .before .before)), c .before .before .one .ensures ∙ c .before .before .before .before .before .before .before .before .before .before .loop .inv .1)
+loop-again c =
+    let listed = c .before .before in
+    let fits = listed .before .before .before in
+    (omega (arith, within fits), listed .one .ensures ∙ head (fits .before .before .before) .loop .inv .1)
 
 same-length-2 : tie.Need-same-length-2 Inv-loop μ-loop
 same-length-2 c = search needs
@@ -92,27 +101,6 @@ returns-3 c = search needs
 pub replay-spec : {M : Type 1} → statement M
 replay-spec =
     tie.close
-    (tie.spec
-    Inv-loop
-    μ-loop
-    loop-holds
-    sub-if1
-    sub-length-at
-    part-length-at-start
-    part-length-at-end
-    length-at-requires
-    add-from
-    sub-if2
-    same-length
-    returns
-    add-end
-    sub-one
-    part-one-start
-    part-one-end
-    one-requires
-    loop-less
-    loop-again
-    same-length-2
-    returns-2
-    same-length-3
-    returns-3)
+    (tie.spec Inv-loop μ-loop loop-holds sub-if1 sub-length-at part-length-at-start part-length-at-end length-at-requires
+    add-from sub-if2 same-length returns add-end sub-one part-one-start part-one-end one-requires loop-less loop-again
+    same-length-2 returns-2 same-length-3 returns-3)

@@ -10,13 +10,15 @@ use borrow.Author.Needs.{needs}
 use Rattle.barcodes.proofs.barcode.barcode_at.Statement.{statement}
 use Rattle.barcodes.proofs.barcode.barcode_at.Tie as tie
 
-listed : (d : tie.Else1) → isListed (d .before .before .before .before .args .f .symbology) ≡ true
+abbrev start : tie.Else1 → tie.Start
+start d = d .before .before .before .before
+
+listed : (d : tie.Else1) → isListed (start d .args .f .symbology) ≡ true
 listed d = sym (d .before .is-listed .ensures) ∙ not-false (d .before .is-listed .result) (d .if1 .left)
 
-at : (d : tie.After-place)
-    → d .place .result ≡ placed (d .before .before .before .before .before .before .before .args .f .at .x) (d .before .before .before .before .before .before .before .args .f .at .y) (d .before .before .before .before .before .before .before .args .reference)
+at : (d : tie.After-place) → let a = start (d .before .before .before) .args in d .place .result ≡ placed (a .f .at .x) (a .f .at .y) (a .reference)
 at d =
-    let p = d .before .before .before .before .before .before .before .args .f .at in
+    let p = start (d .before .before .before) .args .f .at in
     simp (back32 (p .x) (d .before .before .struct-told .given .0 .1), back32 (p .y) (d .before .struct-told2 .given .1 .0 .1)) at (d .place .ensures)
 
 returns : tie.Need-returns
@@ -32,9 +34,9 @@ returns-2 c =
 returns-3 : tie.Need-returns-3
 unfolding barcodeAt
 returns-3 c =
-    let d = c .before .before .before .before .before .before in
-    let f = d .before .before .before .before .before .before .before .args .f in
-    simp (listed (d .before .before .before), sym (at d) ∙ c .before .before .before .before .position .given .1)
+    let position = c .before .before .before .before in let d = position .before .before in
+    let f = start (d .before .before .before) .args .f in
+    simp (listed (d .before .before .before), sym (at d) ∙ position .position .given .1)
     (simp (c .before .epl-rotation .ensures, back32 (f .rotation) (c .before .before .struct-told3 .given .1 .0 .1)) at (c .barcode-element .ensures))
 
 pub barcode-at-spec : {M : Type 1} → statement M

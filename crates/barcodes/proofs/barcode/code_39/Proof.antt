@@ -10,8 +10,8 @@ use Rattle.barcodes.proofs.barcode.code_39.Tie as tie
 returns : tie.Need-returns
 unfolding code39
 returns c =
-    let told = c .before .before .before .before .struct-told .given in
-    let bars = c .before .before .before .before .before .before .before .before .args .b .bars in
+    let read = c .before .before .before .before in let told = read .struct-told .given in
+    let bars = read .before .before .before .before .args .b .bars in
     let narrow = back32 (bars .narrow) (told .0 .1) in
     let wide = back32 (bars .wide) (told .1 .0 .1) in
     rw (back32 (bars .height) (told .1 .1 .0 .1), narrow, wide, simp (narrow, wide) at (c .before .bar-ratio .ensures))

@@ -13,13 +13,13 @@ returns c =
 
 returns-2 : tie.Need-returns-2
 returns-2 c =
-    let t = c .before .before .before .before .before .before .args .t .now in
-    c .two-letters .ensures ∙ sym (symbology-two t (c .before .before .before .if2 .taken))
+    let two = c .before .before .before in let t = two .before .before .before .args .t .now in
+    c .two-letters .ensures ∙ sym (symbology-two t (two .if2 .taken))
 
 returns-3 : tie.Need-returns-3
 returns-3 c =
-    let t = c .before .before .before .before .before .before .before .before .args .t .now in
-    c .three-letters .ensures ∙ sym (symbology-three t (c .before .before .before .before .if3 .taken))
+    let three = c .before .before .before .before in let t = three .before .before .before .before .args .t .now in
+    c .three-letters .ensures ∙ sym (symbology-three t (three .if3 .taken))
 
 returns-4 : tie.Need-returns-4
 returns-4 c =

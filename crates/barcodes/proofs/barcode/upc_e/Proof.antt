@@ -8,8 +8,8 @@ use Rattle.barcodes.proofs.barcode.upc_e.Tie as tie
 returns : tie.Need-returns
 unfolding upcE
 returns c =
-    let bars = c .before .before .before .before .before .args .b .bars in
-    rw (back32 (bars .height) (c .before .struct-told .given .1 .1 .0 .1), back32 (bars .narrow) (c .struct-told2 .given .0 .1))
+    let height = c .before in let bars = height .before .before .before .before .args .b .bars in
+    rw (back32 (bars .height) (height .struct-told .given .1 .1 .0 .1), back32 (bars .narrow) (c .struct-told2 .given .0 .1))
 
 pub upc-e-spec : {M : Type 1} → statement M
 upc-e-spec = tie.close (tie.spec returns)

@@ -17,8 +17,8 @@ returns c =
     let x = c .before .before .clamped-or in
     let y = c .before .number-or in
     let z = c .aztec-size in
-    let o = c .before .before .before .options-of in
-    let s = c .before .before .before .before .before .args .s .now in
+    let options = c .before .before .before in let o = options .options-of in
+    let s = options .before .before .args .s .now in
     rw (back32 (x .result) (x .ok), back32 (z .result) (z .ok))
     (simp (
       x .ensures,

@@ -38,15 +38,15 @@ returns-2 c =
 
 returns-3 : tie.Need-returns-3
 returns-3 c =
-    let r = c .before .before .before .before .before in
-    let n = read (r .before) in
-    says (r .before) (size-tests n (c .before .before .before .before .if1 .left) (c .before .before .before .if2 .left) (c .before .before .if3 .left) (c .before .if4 .left) (c .if5 .taken) refl (other r))
+    let not4 = c .before in let not3 = not4 .before in let not2 = not3 .before in let not1 = not2 .before in
+    let r = not1 .before in
+    says (r .before) (size-tests (read (r .before)) (not1 .if1 .left) (not2 .if2 .left) (not3 .if3 .left) (not4 .if4 .left) (c .if5 .taken) refl (other r))
 
 returns-4 : tie.Need-returns-4
 returns-4 c =
-    let r = c .before .before .before .before .before .before in
-    let n = read (r .before) in
-    says (r .before) (size-tests n (c .before .before .before .before .before .if1 .left) (c .before .before .before .before .if2 .left) (c .before .before .before .if3 .left) (c .before .before .if4 .left) (c .before .if5 .left) (c .if6 .left) (other r))
+    let not5 = c .before in let not4 = not5 .before in let not3 = not4 .before in let not2 = not3 .before in let not1 = not2 .before in
+    let r = not1 .before in
+    says (r .before) (size-tests (read (r .before)) (not1 .if1 .left) (not2 .if2 .left) (not3 .if3 .left) (not4 .if4 .left) (not5 .if5 .left) (c .if6 .left) (other r))
 
 returns-5 : tie.Need-returns-5
 unfolding aztecSize
@@ -66,9 +66,9 @@ returns-7 c =
 
 returns-8 : tie.Need-returns-8
 returns-8 c =
-    let r = c .before .before .before .before .before .before in
-    let n = read (r .before) in
-    says (r .before) (size-tests n (c .before .before .before .before .before .if1 .left) (c .before .before .before .before .if2 .left) (c .before .before .before .if3 .left) (c .before .before .if4 .left) (c .before .if5 .left) (c .if6 .taken) refl)
+    let not5 = c .before in let not4 = not5 .before in let not3 = not4 .before in let not2 = not3 .before in let not1 = not2 .before in
+    let r = not1 .before in
+    says (r .before) (size-tests (read (r .before)) (not1 .if1 .left) (not2 .if2 .left) (not3 .if3 .left) (not4 .if4 .left) (not5 .if5 .left) (c .if6 .taken) refl)
 
 pub aztec-size-spec : {M : Type 1} → statement M
 aztec-size-spec = tie.close (tie.spec returns returns-2 returns-3 returns-4 returns-5 returns-6 returns-7 returns-8)

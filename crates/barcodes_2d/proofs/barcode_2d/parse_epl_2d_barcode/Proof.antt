@@ -14,7 +14,7 @@ use borrow.Author.Needs.{needs}
 use Rattle.barcodes_2d.proofs.barcode_2d.parse_epl_2d_barcode.Statement.{statement}
 use Rattle.barcodes_2d.proofs.barcode_2d.parse_epl_2d_barcode.Tie as tie
 
-counted : (d : tie.After-reaches) → d .reaches .result ≡ leb 3 (length (fields (d .before .before .before .before .before .args .params .now)))
+counted : (d : tie.After-reaches) → let p = d .before .before in d .reaches .result ≡ leb 3 (length (fields (p .before .before .before .args .params .now)))
 counted d =
     let p = d .before .before in
     let s = p .before .before .before .args .params .now in

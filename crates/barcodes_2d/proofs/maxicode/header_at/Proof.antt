@@ -11,7 +11,7 @@ returns : tie.Need-returns
 returns c = sym (header-short (c .before .args .s .now) (c .if1 .taken))
 
 returns-2 : tie.Need-returns-2
-returns-2 c = header-bytes (c .before .before .before .before .before .before .before .before .args .s .now) (search needs)
+returns-2 c = let fourth = c .before .before .before in let long = fourth .before .before .before .before in header-bytes (long .before .args .s .now) (search needs)
 
 pub header-at-spec : {M : Type 1} → statement M
 header-at-spec =

@@ -25,11 +25,11 @@ put-part-requires : tie.Need-put-part-requires Inv-loop μ-loop
 put-part-requires c κs = omega (arith, room (c .before .before .before .before))
 
 add-o : tie.Need-add-o Inv-loop μ-loop
-add-o c = let shown = c .before .before .before .before .before in let h = room (shown .before .before) in search needs
+add-o c = let stored = c .before .before in let shown = stored .before .before .before in let h = room (shown .before .before) in search needs
 
 loop-less : tie.Need-loop-less Inv-loop μ-loop
 loop-less c =
-    let shown = c .before .before .before .before .before .before in
+    let stored = c .before .before .before in let shown = stored .before .before .before in
     let p = shown .before .before in
     left-lt (p .before .loop-test .taken) (p .part-len .ensures)
 

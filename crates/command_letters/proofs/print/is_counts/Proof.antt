@@ -47,9 +47,9 @@ part-is-count-start c = omega (arith, inside (c .before .before .before) (c .bef
 
 returns-3 : tie.Need-returns-3
 returns-3 c =
-    let d = c .before .before .before .before .before in
+    let comma = c .before .before in let more = comma .before .before in let d = more .before in
     ap (λ (b : Bool). ltb 0 (run d) && b) (c .is-count .ensures ∙ ap isCount (rest (text d) (run d + 1)))
-    ∙ sym (counts-comma (text d) (run d) (d .digit-run .ensures) (c .before .before .before .before .if1 .left) (c .before .before .if2 .left))
+    ∙ sym (counts-comma (text d) (run d) (d .digit-run .ensures) (more .if1 .left) (comma .if2 .left))
 
 pub is-counts-spec : {M : Type 1} → statement M
 is-counts-spec =

@@ -16,25 +16,24 @@ use borrow.Author.Needs.{needs}
 use Rattle.commands.proofs.line.read_quoted.Statement.{statement}
 use Rattle.commands.proofs.line.read_quoted.Tie as tie
 
--- the line
+-- the line, and where its first quote was found
 abbrev text : tie.After-find → List ℕ
 text f = f .before .before .args .t .now
 
+abbrev quote : tie.After-before-last → tie.After-find
+quote d = d .before .before .before
+
 -- the data that was cut out
-cut : (d : tie.After-before-last) → d .before-last .result .now ≡ quoted (text (d .before .before .before))
+cut : (d : tie.After-before-last) → d .before-last .result .now ≡ quoted (text (quote d))
 cut d =
-    let f = d .before .before .before in
+    let f = quote d in
     d .before-last .ensures ∙ ap (beforeLast 34) (after-here 34 (text f) (f .find .result) (f .find .ensures .is))
 
--- where the first quote was found
-abbrev found : tie.After-without-trailing-commas → tie.After-find
-found d = d .before .before .before .before .before .before .before
-
 -- the parameters that were cut out
-params : (d : tie.After-without-trailing-commas) → d .without-trailing-commas .result .now ≡ paramsOf (text (found d))
+params : (d : tie.After-without-trailing-commas) → d .without-trailing-commas .result .now ≡ paramsOf (text (quote (d .before .before .before .before)))
 unfolding paramsOf before
 params d =
-    let f = found d in
+    let f = quote (d .before .before .before .before) in
     d .without-trailing-commas .ensures ∙ ap withoutTrailingCommas (d .before .tail .ensures) ∙ ap (λ (n : ℕ). withoutTrailingCommas (drop 1 (take n (text f)))) (f .find .ensures .is)
 
 returns : tie.Need-returns
@@ -47,11 +46,11 @@ returns-2 : tie.Need-returns-2
 unfolding quotedReading
 returns-2 c =
     let d = c .before in
-    simp (eq-eqb (length (quoted (text (d .before .before .before)))) 0 (sym (ap length (cut d)) ∙ c .if2 .taken))
+    simp (eq-eqb (length (quoted (text (quote d)))) 0 (sym (ap length (cut d)) ∙ c .if2 .taken))
 
 slice-aggregate-tail : tie.Need-slice-aggregate-tail
 slice-aggregate-tail c =
-    let f = c .before .before .before .before .before in
+    let f = quote (c .before .before) in
     sym (length-take-le (f .find .result) (text f) (f .find .ensures .fits))
 
 returns-3 : tie.Need-returns-3
@@ -59,7 +58,7 @@ unfolding quotedReading
 returns-3 c =
     let e = c .before .before .before .before in
     let d = e .before in
-    let f = d .before .before .before in
+    let f = quote d in
     let a = f .before .before .args in
     let t = a .t .now in
     let start : a .lead + (f .find .result + 1) ≡ a .lead + indexOf 34 t + 1 = omega (arith, f .find .ensures .is) in

@@ -23,15 +23,18 @@ measured s d p n h at m =
     ∙ omega (arith, length-decode-le (part s d), length-take (d .len) (drop (d .start) s), length-drop (d .start) s)
 
 -- what is due where the input is within its limit, and how long it is
-abbrev entry : tie.After-decoded-len → tie.Start
-entry n = n .before .before .before .before .before
-
 module _ (n : tie.After-decoded-len) where
-  due-is : let a = entry n .args in dueOf (a .input .now) (a .d) ≡ text (decode (part (a .input .now) (a .d)))
-  due-is = let a = entry n .args in within-short longest (a .input .now) (text (decode (part (a .input .now) (a .d)))) (n .before .before .if1 .left)
+  abbrev within : tie.Else1
+  within = n .before .before
 
-  long-is : let a = entry n .args in n .decoded-len .result ≡ length (decode (part (a .input .now) (a .d)))
-  long-is = let a = entry n .args in measured (a .input .now) (a .d) _ (n .decoded-len .result) (n .before .before .if1 .left) (n .before .part .ensures) (n .decoded-len .ensures)
+  abbrev entry : tie.Start
+  entry = within .before .before .before
+
+  due-is : let a = entry .args in dueOf (a .input .now) (a .d) ≡ text (decode (part (a .input .now) (a .d)))
+  due-is = let a = entry .args in within-short longest (a .input .now) (text (decode (part (a .input .now) (a .d)))) (within .if1 .left)
+
+  long-is : let a = entry .args in n .decoded-len .result ≡ length (decode (part (a .input .now) (a .d)))
+  long-is = let a = entry .args in measured (a .input .now) (a .d) _ (n .decoded-len .result) (within .if1 .left) (n .before .part .ensures) (n .decoded-len .ensures)
 
 returns : tie.Need-returns
 returns c =

@@ -10,16 +10,21 @@ use Rattle.dots.proofs.element.convert_lengths.Tie as tie
 at-x : (d : tie.After-known-told) → converted (to300 (d .before .before .before .before .args .l .x .0)) ≡ Dots (d .before .x .given .0 .0)
 at-x d = sym (d .before .before .before .to-300 .ensures) ∙ d .before .x .given .1
 
-at-y : (d : tie.After-known-told2) → converted (to300 (d .before .before .before .before .before .before .before .before .args .l .y .0)) ≡ Dots (d .before .y .given .0 .0)
+at-y : (d : tie.After-known-told2) → let x = d .before .before .before .before in converted (to300 (x .before .before .before .before .args .l .y .0)) ≡ Dots (d .before .y .given .0 .0)
 at-y d = sym (d .before .before .before .to-3002 .ensures) ∙ d .before .y .given .1
 
-at-width : (d : tie.After-known-told3) → converted (to300 (d .before .before .before .before .before .before .before .before .before .before .before .before .args .l .width .0)) ≡ Dots (d .before .width .given .0 .0)
+-- the start, of where the width is converted: y and x were before it
+abbrev start : tie.After-known-told3 → tie.Start
+start w = let y = w .before .before .before .before in let x = y .before .before .before .before in x .before .before .before .before
+
+at-width : (d : tie.After-known-told3) → converted (to300 (start d .args .l .width .0)) ≡ Dots (d .before .width .given .0 .0)
 at-width d = sym (d .before .before .before .to-3003 .ensures) ∙ d .before .width .given .1
 
-at-height : (d : tie.After-known-told4) → converted (to300 (d .before .before .before .before .before .before .before .before .before .before .before .before .before .before .before .before .args .l .height .0)) ≡ Dots (d .before .height .given .0 .0)
+at-height : (d : tie.After-known-told4) → let w = d .before .before .before .before in converted (to300 (start w .args .l .height .0)) ≡ Dots (d .before .height .given .0 .0)
 at-height d = sym (d .before .before .before .to-3004 .ensures) ∙ d .before .height .given .1
 
-at-thickness : (d : tie.After-known-told5) → converted (to300 (d .before .before .before .before .before .before .before .before .before .before .before .before .before .before .before .before .before .before .before .before .args .l .thickness .0)) ≡ Dots (d .before .thickness .given .0 .0)
+at-thickness : (d : tie.After-known-told5) → let h = d .before .before .before .before in let w = h .before .before .before .before in
+    converted (to300 (start w .args .l .thickness .0)) ≡ Dots (d .before .thickness .given .0 .0)
 at-thickness d = sym (d .before .before .before .to-3005 .ensures) ∙ d .before .thickness .given .1
 
 returns : tie.Need-returns

@@ -6,10 +6,14 @@ use Rattle.dots.proofs.element.lengths.Tie as tie
 
 returns : tie.Need-returns
 returns c =
-    let e = c .before .before .before .before .before .before .before .before .before .before .args .e in
-    let g = c .struct-told5 .given in
-    rw (c .before .before .before .before .before .before .pick .ensures, c .before .before .before .before .pick2 .ensures, c .before .before .pick3 .ensures, c .before .before .before .before .before .before .before .before .before .is-drawn .ensures, c .before .before .before .before .before .before .before .before .is-barred .ensures)
-    (simp (back32 (e .x) (g .1 .1 .1 .1 .1 .1 .1 .1 .1 .0 .1), back32 (e .y) (g .1 .1 .1 .1 .1 .1 .1 .1 .1 .1 .0 .1), back32 (e .width) (g .1 .1 .1 .1 .1 .1 .1 .1 .1 .1 .1 .0 .1), back32 (e .height) (g .1 .1 .1 .1 .1 .1 .1 .1 .1 .1 .1 .1 .0 .1), back32 (e .thickness) (g .1 .1 .1 .1 .1 .1 .1 .1 .1 .1 .1 .1 .1 .0 .1)))
+    let thickness = c .before .before in
+    let height = thickness .before .before in
+    let width = height .before .before in
+    let barred = width .before .before in
+    let e = barred .before .before .args .e in
+    let g = c .struct-told5 .given .1 .1 .1 .1 .1 .1 .1 .1 .1 in
+    rw (width .pick .ensures, height .pick2 .ensures, thickness .pick3 .ensures, barred .before .is-drawn .ensures, barred .is-barred .ensures)
+    (simp (back32 (e .x) (g .0 .1), back32 (e .y) (g .1 .0 .1), back32 (e .width) (g .1 .1 .0 .1), back32 (e .height) (g .1 .1 .1 .0 .1), back32 (e .thickness) (g .1 .1 .1 .1 .0 .1)))
 
 pub lengths-spec : {M : Type 1} → statement M
 lengths-spec = tie.close (tie.spec (λ c κs. search needs) (λ c κs. search needs) (λ c κs. search needs) (λ c κs. search needs) (λ c κs. search needs) returns)

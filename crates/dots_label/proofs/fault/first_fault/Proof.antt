@@ -53,25 +53,29 @@ fault-past g n d ds h = simp h
 loop-holds : tie.Need-loop-holds Inv-loop μ-loop
 loop-holds c = refl
 
+-- where the loop matched an element, of where its number is known
+abbrev matched : tie.After-number-for Inv-loop μ-loop → tie.After-next Inv-loop μ-loop
+matched n = n .before .before
+
 line-start-requires : tie.Need-line-start-requires Inv-loop μ-loop
-line-start-requires c κs = let g = c .before .before .before .next .given in let m = moved (c .before .before .before .before .before) (Element (g .0 .0) (g .0 .1 .0)) (g .1) in (m .1, m .2)
+line-start-requires c κs = let e = matched (c .before) in let g = e .next .given in let m = moved (e .before .before) (Element (g .0 .0) (g .0 .1 .0)) (g .1) in (m .1, m .2)
 
 returns : tie.Need-returns Inv-loop μ-loop
 returns c =
-    let d = c .before .before .before .before .before .before in
-    let g = c .before .before .before .before .next .given in
+    let e = matched (c .before .before) in let d = e .before .before in
+    let g = e .next .given in
     let n = c .before .before .number-for .ensures in
     let x : Drawn = record { place = lineAt (source d) (d .before .loop .here); element = g .0 .1 .0 } in
     (λ i. record { number = n i; place = (c .line-start .ensures ∙ line-is (source d) (d .before .loop .here) (g .0 .1 .0) (stateOf (g .0 .0)) (ap answerOf (sym (g .1)) ∙ d .step .ensures)) i })
     ∙ sym (told d (Element (g .0 .0) (g .0 .1 .0)) (g .1) ∙ fault-here (looked d) (d .before .loop .here .pending) x (drawnFrom (source d) (g .0 .0)) (λ e. c .before .if1 .taken (n ∙ e)))
 
 loop-less : tie.Need-loop-less Inv-loop μ-loop
-loop-less c = let g = c .before .before .before .next .given in let m = moved (c .before .before .before .before .before) (Element (g .0 .0) (g .0 .1 .0)) (g .1) in omega (arith, m .1, m .2)
+loop-less c = let e = matched (c .before) in let g = e .next .given in let m = moved (e .before .before) (Element (g .0 .0) (g .0 .1 .0)) (g .1) in omega (arith, m .1, m .2)
 
 loop-again : tie.Need-loop-again Inv-loop μ-loop
 loop-again c =
-    let d = c .before .before .before .before .before in
-    let g = c .before .before .before .next .given in
+    let e = matched (c .before) in let d = e .before .before in
+    let g = e .next .given in
     let q = Element (g .0 .0) (g .0 .1 .0) in
     let x : Drawn = record { place = lineAt (source d) (d .before .loop .here); element = g .0 .1 .0 } in
     told d q (g .1)

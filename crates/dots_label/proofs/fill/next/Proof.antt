@@ -12,17 +12,21 @@ use borrow.Author.Needs.{needs}
 use Rattle.dots_label.proofs.fill.next.Statement.{statement}
 use Rattle.dots_label.proofs.fill.next.Tie as tie
 
-told : (d : tie.After-step) (q : Answer) → d .step .result ≡ q → onElement (d .before .before .before .before .before .args .c) (answerOf q) ≡ nextOf (d .before .before .before .before .before .args .input .now) (d .before .before .before .before .before .args .c)
-told d q k = ap (onElement (d .before .before .before .before .before .args .c)) (ap answerOf (sym k) ∙ d .step .ensures)
+-- the entry, of where the step is about to be taken
+abbrev entry : tie.After-step-arg → tie.Start
+entry c = c .before .before .before .before
+
+told : (d : tie.After-step) (q : Answer) → d .step .result ≡ q → let a = entry (d .before) .args in onElement (a .c) (answerOf q) ≡ nextOf (a .input .now) (a .c)
+told d q k = ap (onElement (entry (d .before) .args .c)) (ap answerOf (sym k) ∙ d .step .ensures)
 
 slice-aggregate-step : tie.Need-slice-aggregate-step
-slice-aggregate-step c = let a = c .before .before .before .before .args in sym (length-take-le (a .c .last) (a .input .now) (c .before .before .before .before .pre))
+slice-aggregate-step c = let a = entry c .args in sym (length-take-le (a .c .last) (a .input .now) (entry c .pre))
 
 returns : tie.Need-returns
 returns c =
-    let d = c .before .before .before .before .before in
-    let g = c .before .before .before .state .given in
-    ap (λ (x : Element300). record { element = x; state = g .0 .0; last = d .before .before .before .before .before .args .c .last })
+    let matched = c .before .before .before in
+    let d = matched .before .before in let g = matched .state .given in
+    ap (λ (x : Element300). record { element = x; state = g .0 .0; last = entry (d .before) .args .c .last })
     (c .element-300 .ensures ∙ ap (λ (f : flat.Element). orNothing (convertedElement f)) (c .before .struct-of .ensures))
     ∙ told d (Element (g .0 .0) (g .0 .1 .0)) (g .1)
 

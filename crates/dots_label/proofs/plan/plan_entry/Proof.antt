@@ -21,22 +21,30 @@ returns-2 c =
 
 returns-3 : tie.Need-returns-3
 returns-3 c =
-    let a = c .before .before .before .before .before .args in
-    subst (λ (x : Conversion). Plans (take (a .e .last) (a .input .now)) (a .room) x (c .deny3 .result)) (entry-beyond (a .input .now) (a .n) (a .i) (a .e) (a .room) (c .before .before .before .if1 .left) (c .before .before .if2 .left) (c .before .if3 .taken)) (c .deny3 .ensures (take (a .e .last) (a .input .now)) (a .room))
+    let listed = c .before .before in let a = listed .before .before .before .args in
+    subst (λ (x : Conversion). Plans (take (a .e .last) (a .input .now)) (a .room) x (c .deny3 .result))
+    (entry-beyond (a .input .now) (a .n) (a .i) (a .e) (a .room) (listed .before .if1 .left) (listed .if2 .left) (c .before .if3 .taken)) (c .deny3 .ensures (take (a .e .last) (a .input .now)) (a .room))
+
+-- the start, of where the entry's last place is known to lie inside the input
+abbrev start : tie.Else3 → tie.Start
+start inside = inside .before .before .before .before
 
 returns-4 : tie.Need-returns-4
 returns-4 c =
-    let a = c .before .before .before .before .before .before .before .args in
-    subst (λ (x : Conversion). Plans (take (a .e .last) (a .input .now)) (a .room) x (c .deny4 .result)) (entry-backwards (a .input .now) (a .n) (a .i) (a .e) (a .room) (c .before .before .before .before .before .if1 .left) (c .before .before .before .before .if2 .left) (c .before .before .before .if3 .left) (c .before .if4 .taken)) (c .deny4 .ensures (take (a .e .last) (a .input .now)) (a .room))
+    let inside = c .before .before .before in let a = start inside .args in
+    subst (λ (x : Conversion). Plans (take (a .e .last) (a .input .now)) (a .room) x (c .deny4 .result))
+    (entry-backwards (a .input .now) (a .n) (a .i) (a .e) (a .room) (inside .before .before .if1 .left) (inside .before .if2 .left) (inside .if3 .left) (c .before .if4 .taken))
+    (c .deny4 .ensures (take (a .e .last) (a .input .now)) (a .room))
 
 slice-aggregate-plan-first : tie.Need-slice-aggregate-plan-first
-slice-aggregate-plan-first c = let a = c .before .before .before .before .before .before .before .before .args in sym (length-take-le (a .e .last) (a .input .now) (c .before .before .before .before .if3 .left))
+slice-aggregate-plan-first c = let inside = c .before .before .before .before in let a = start inside .args in sym (length-take-le (a .e .last) (a .input .now) (inside .if3 .left))
 
 returns-5 : tie.Need-returns-5
 returns-5 c =
-    let a = c .before .before .before .before .before .before .before .before .before .args in
+    let forward = c .before .before .before in
+    let inside = forward .before .before in let a = start inside .args in
     subst (λ (x : Conversion). Plans (take (a .e .last) (a .input .now)) (a .room) x (c .plan-first .result))
-    (entry-walked (a .input .now) (a .n) (a .i) (a .e) (a .room) (c .before .before .before .before .before .before .before .if1 .left) (c .before .before .before .before .before .before .if2 .left) (c .before .before .before .before .before .if3 .left) (c .before .before .before .if4 .left)) (c .plan-first .ensures)
+    (entry-walked (a .input .now) (a .n) (a .i) (a .e) (a .room) (inside .before .before .if1 .left) (inside .before .if2 .left) (inside .if3 .left) (forward .if4 .left)) (c .plan-first .ensures)
 
 pub plan-entry-spec : {M : Type 1} → statement M
 plan-entry-spec = tie.close (tie.spec (λ c κs. search needs) returns (λ c κs. search needs) returns-2 (λ c κs. search needs) returns-3 (λ c κs. search needs) returns-4 slice-aggregate-plan-first (λ c κs. search needs) returns-5)

@@ -17,9 +17,10 @@ plan-label-requires c κs = let g = c .before .first .given in told (c .before .
 
 returns : tie.Need-returns
 returns c =
-    let d = c .before .before .before .before .before in
+    let none = c .before .before .before in
+    let d = none .before .before in
     let a = d .before .before .args in
-    let g = c .before .before .before .k .given in
+    let g = none .k .given in
     subst (λ (x : Conversion). Plans (a .input .now) (a .room) x (c .deny .result))
     (ap (λ (n : ℕ). denied n (g .0 .1 .0)) (c .before .number .ensures) ∙ sym (told d (NoLabel (g .0 .0) (g .0 .1 .0)) (g .1) (a .room))) (c .deny .ensures (a .input .now) (a .room))
 

@@ -10,8 +10,8 @@ use Rattle.draws.proofs.draw.diagonal.Tie as tie
 returns : tie.Need-returns
 returns c =
     let known = c .struct-told .given in
-    let d = c .before .before .before .d .given in
-    rw (back32 (d .0 .0 .width) (known .1 .0 .1), back32 (d .0 .0 .height) (known .1 .1 .0 .1), toZ-ofZ (c .before .before .before .before .before .fits .thickness))
+    let sized = c .before .before .before in let d = sized .d .given in
+    rw (back32 (d .0 .0 .width) (known .1 .0 .1), back32 (d .0 .0 .height) (known .1 .1 .0 .1), toZ-ofZ (sized .before .before .fits .thickness))
     (simp (d .1))
 
 pub diagonal-spec : {M : Type 1} → statement M

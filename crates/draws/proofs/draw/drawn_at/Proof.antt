@@ -14,7 +14,7 @@ use Rattle.draws.proofs.draw.drawn_at.Tie as tie
 
 -- the way back to the entry: from the smaller x, the smaller y, the position, the extent along x
 abbrev from-x : tie.After-min → tie.Start
-from-x d = d .before .before .before .before .before
+from-x d = let first = d .before .before in first .before .before .before
 
 abbrev from-y : tie.After-min2 → tie.Start
 from-y d = from-x (d .before .before .before)
@@ -22,8 +22,12 @@ from-y d = from-x (d .before .before .before)
 abbrev from-place : tie.After-known-told → tie.Start
 from-place d = from-y (d .before .before .before .before)
 
+-- and from the extent along x to the position
+abbrev place-of : tie.After-known-told2 → tie.After-known-told
+place-of d = let size = d .before .before .before in size .before .before .before
+
 abbrev from-across : tie.After-known-told2 → tie.Start
-from-across d = from-place (d .before .before .before .before .before .before)
+from-across d = from-place (place-of d)
 
 least-x : (d : tie.After-min) → let k = from-x d .args .c in d .min .result ≡ minZ (k .first .x) (k .second .x)
 least-x d =
@@ -72,14 +76,14 @@ returns-3 : tie.Need-returns-3
 returns-3 c =
     let e = c .before .before in
     let x = e .before .before .before in
-    rw (drawn (x .before .before .before .before .before .before)) (simp (across x, sym (down-is e) ∙ c .enum-told3 .given .1))
+    rw (drawn (place-of x)) (simp (across x, sym (down-is e) ∙ c .enum-told3 .given .1))
 
 returns-4 : tie.Need-returns-4
 returns-4 c =
     let d = c .before .before .before .before in
     let e = d .before .before in
     let x = e .before .before .before in
-    rw (drawn (x .before .before .before .before .before .before), back32 (x .before .across .given .0 .0 .size) (c .before .struct-told9 .given .0 .1), back32 (d .down .given .0 .0 .size) (c .struct-told10 .given .0 .1))
+    rw (drawn (place-of x), back32 (x .before .across .given .0 .0 .size) (c .before .struct-told9 .given .0 .1), back32 (d .down .given .0 .0 .size) (c .struct-told10 .given .0 .1))
     (simp (across x, sym (down-is e) ∙ d .down .given .1, c .before .before .same-way .ensures))
 
 pub drawn-at-spec : {M : Type 1} → statement M

@@ -21,13 +21,13 @@ returns c = simp (sym (place-is (c .before .before)) ∙ c .enum-told .given .1)
 returns-2 : tie.Need-returns-2
 unfolding lineElement
 returns-2 c =
-    let p = c .before .before .before .before .before in
-    let f = p .before .before .before .before .before .before .args .f in
+    let least = c .before in let p = least .before .before .before .before in let d = p .before .before in
+    let f = d .before .before .before .before .args .f in
     let known = c .struct-told5 .given in
     let w = back32 (f .width) (known .1 .0 .1) in
     let h = back32 (f .height) (known .1 .1 .0 .1) in
-    let m = c .before .min in
-    rw (back32 (m .result) (m .ok), w, h) (simp (sym (place-is (p .before .before)) ∙ p .position .given .1, simp (w, h) at (m .ensures)))
+    let m = least .min in
+    rw (back32 (m .result) (m .ok), w, h) (simp (sym (place-is d) ∙ p .position .given .1, simp (w, h) at (m .ensures)))
 
 pub line-element-spec : {M : Type 1} → statement M
 line-element-spec =

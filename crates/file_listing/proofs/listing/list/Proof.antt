@@ -46,9 +46,10 @@ returns c =
 
 put-labels-requires : tie.Need-put-labels-requires
 put-labels-requires c κs =
-    let m = c .before .before .before .before .before in
-    let n = c .before .before .before .n .given in
-    omega (arith, due-length (m .before .before .before .args .input .now) (n .0 .0) (told m (Bytes (n .0 .0)) (n .1)), c .before .if1 .left)
+    let fits = c .before in let size = fits .before .before in
+    let m = size .before .before in
+    let n = size .n .given in
+    omega (arith, due-length (m .before .before .before .args .input .now) (n .0 .0) (told m (Bytes (n .0 .0)) (n .1)), fits .if1 .left)
 
 returns-2 : tie.Need-returns-2
 returns-2 c =
@@ -60,12 +61,14 @@ returns-2 c =
 returns-3 : tie.Need-returns-3
 returns-3 c =
     let p = c .before .before in
-    let m = p .before .before .before .before .before .before in
+    let fits = p .before .before in let size = fits .before .before in
+    let m = size .before .before in
     let a = m .before .before .before .args in
-    let n = p .before .before .before .before .n .given in
+    let n = size .n .given in
     let e = told m (Bytes (n .0 .0)) (n .1) in
     let w = p .put-labels .ensures in
-    fills-written (a .out .now) (due-text (a .input .now) (n .0 .0) e) (omega (arith, w .next)) (omega (arith, w .next, due-length (a .input .now) (n .0 .0) e, p .before .before .if1 .left)) (w .wrote .is)
+    fills-written (a .out .now) (due-text (a .input .now) (n .0 .0) e) (omega (arith, w .next))
+    (omega (arith, w .next, due-length (a .input .now) (n .0 .0) e, fits .if1 .left)) (w .wrote .is)
 
 pub list-spec : {M : Type 1} → statement M
 list-spec =

@@ -65,34 +65,41 @@ Inv-loop input here₀ total₀ pend₀ here total pend = (sizeFrom input 0 0 (t
 abbrev μ-loop : tie.MeasureT-loop
 μ-loop input here₀ total₀ pend₀ here total pend = length input - here .place
 
+-- the input, where a step was taken
+abbrev source : tie.After-step Inv-loop μ-loop → List ℕ
+source d = d .before .before .before .before .args .input .now
+
 -- what is counted so far and the rest of the walk, by the answer that the loop matched
 counted : (d : tie.After-step Inv-loop μ-loop) (q : Answer) → d .step .result ≡ q
-    → sizeFrom (d .before .before .before .before .args .input .now) 0 0 (traceOf (d .before .before .before .before .args .input .now) fresh)
-    ≡ sizeFrom (d .before .before .before .before .args .input .now) (d .before .loop .total) (d .before .loop .pend) (onStep (d .before .before .before .before .args .input .now) q)
+    → sizeFrom (source d) 0 0 (traceOf (source d) fresh) ≡ sizeFrom (source d) (d .before .loop .total) (d .before .loop .pend) (onStep (source d) q)
 counted d q k =
     let l = d .before .loop in
-    l .inv .0 ∙ ap (sizeFrom (d .before .before .before .before .args .input .now) (l .total) (l .pend)) (begins (d .before .before .before .before .args .input .now) (l .here) (d .step .result) q (d .step .ensures) k)
+    l .inv .0 ∙ ap (sizeFrom (source d) (l .total) (l .pend)) (begins (source d) (l .here) (d .step .result) q (d .step .ensures) k)
 
-moved : (d : tie.After-step Inv-loop μ-loop) (q : Answer) → d .step .result ≡ q → Moved (d .before .before .before .before .args .input .now) (d .before .loop .here) q
-moved d q k = moved-by (d .before .before .before .before .args .input .now) (d .before .loop .here) (d .step .result) q (d .step .ensures) k
+moved : (d : tie.After-step Inv-loop μ-loop) (q : Answer) → d .step .result ≡ q → Moved (source d) (d .before .loop .here) q
+moved d q k = moved-by (source d) (d .before .loop .here) (d .step .result) q (d .step .ensures) k
 
--- at an element, with the length of its frame
+-- at an element, with the length of its frame, behind the step that answered it
+abbrev stepped : tie.After-frame-len Inv-loop μ-loop → tie.After-step Inv-loop μ-loop
+stepped c = c .before .before .before .before
+
 record Told (c : tie.After-frame-len Inv-loop μ-loop) : Type 0 where
-  short : length (c .before .before .before .before .before .before .before .before .args .input .now) ≤ 16777216
-  further : c .before .before .before .before .before .loop .here .place + 1 ≤ c .before .before .next .given .0 .0 .place
-  inside : c .before .before .next .given .0 .0 .place ≤ length (c .before .before .before .before .before .before .before .before .args .input .now)
-  one : c .before .before .next .given .0 .0 .pending ≡ c .before .before .before .before .before .loop .here .pending + 1
+  short : length (source (stepped c)) ≤ 16777216
+  further : stepped c .before .loop .here .place + 1 ≤ c .before .before .next .given .0 .0 .place
+  inside : c .before .before .next .given .0 .0 .place ≤ length (source (stepped c))
+  one : c .before .before .next .given .0 .0 .pending ≡ stepped c .before .loop .here .pending + 1
   small : c .frame-len .result ≤ 4294967295
 
 told : (c : tie.After-frame-len Inv-loop μ-loop) → Told c
 told c =
-    let m = moved (c .before .before .before .before) (Element (c .before .before .next .given .0 .0) (c .before .before .next .given .0 .1 .0)) (c .before .before .next .given .1) in
+    let g = c .before .before .next .given in
+    let m = moved (stepped c) (Element (g .0 .0) (g .0 .1 .0)) (g .1) in
     record {
       short = m .0 .short;
       further = omega (arith, m .1);
       inside = m .2;
       one = omega (arith, m .3);
-      small = frame-len-le (c .before .before .before .before .before .before .before .before .args .input .now) (c .before .before .next .given .0 .1 .0) (c .frame-len .result) (c .frame-len .ensures);
+      small = frame-len-le (source (stepped c)) (g .0 .1 .0) (c .frame-len .result) (c .frame-len .ensures);
     }
 
 start-requires : tie.Need-start-requires Inv-loop μ-loop
@@ -124,12 +131,11 @@ loop-less c = let t = told c in omega (arith, t .further, t .inside, t .one)
 
 loop-again : tie.Need-loop-again Inv-loop μ-loop
 loop-again c =
-    let d = c .before .before .before .before in
-    let s = d .before .before .before .before .args .input .now in
-    let e = c .before .before .next .given .0 .1 .0 in
-    let next = c .before .before .next .given .0 .0 in
+    let d = stepped c in let s = source d in
+    let g = c .before .before .next .given in let e = g .0 .1 .0 in
     let t = told c in (
-      counted d (Element next e) (c .before .before .next .given .1) ∙ ap (λ (m : ℕ). sizeFrom s (d .before .loop .total) (d .before .loop .pend + (2 * m + 1)) (traceOf s next)) (sym (c .frame-len .ensures ∙ frame-len-is s e (t .short))),
+      counted d (Element (g .0 .0) e) (g .1)
+          ∙ ap (λ (m : ℕ). sizeFrom s (d .before .loop .total) (d .before .loop .pend + (2 * m + 1)) (traceOf s (g .0 .0))) (sym (c .frame-len .ensures ∙ frame-len-is s e (t .short))),
       omega (arith, t .small, t .further, t .one),
     )
 
@@ -141,31 +147,32 @@ loop-less-2 c = let m = moved (c .before .before .before) (Clear (c .before .nex
 
 loop-again-2 : tie.Need-loop-again-2 Inv-loop μ-loop
 loop-again-2 c =
-    let m = moved (c .before .before .before) (Clear (c .before .next2 .given .0 .0)) (c .before .next2 .given .1) in
-    (counted (c .before .before .before) (Clear (c .before .next2 .given .0 .0)) (c .before .next2 .given .1), omega (arith, m .1, m .3))
+    let d = c .before .before .before in let g = c .before .next2 .given in let m = moved d (Clear (g .0 .0)) (g .1) in
+    (counted d (Clear (g .0 .0)) (g .1), omega (arith, m .1, m .3))
 
 enum-known-next-3 : tie.Need-enum-known-next-3 Inv-loop μ-loop
 enum-known-next-3 c = search needs
 
+-- how far a print moved on
+abbrev printed : tie.After-known-told3 Inv-loop μ-loop → Answer
+printed c = let g = c .before .next3 .given in Print (g .0 .0) (g .0 .1 .0)
+
+past-print : (c : tie.After-known-told3 Inv-loop μ-loop) → let d = c .before .before .before in Moved (source d) (d .before .loop .here) (printed c)
+past-print c = moved (c .before .before .before) (printed c) (c .before .next3 .given .1)
+
 add-total : tie.Need-add-total Inv-loop μ-loop
-add-total c =
-    let m = moved (c .before .before .before) (Print (c .before .next3 .given .0 .0) (c .before .next3 .given .0 .1 .0)) (c .before .next3 .given .1) in
-    omega (arith, m .0 .short, m .1, m .2, m .4, m .5)
+add-total c = let m = past-print c in omega (arith, m .0 .short, m .1, m .2, m .4, m .5)
 
 add-total-2 : tie.Need-add-total-2 Inv-loop μ-loop
-add-total-2 c =
-    let m = moved (c .before .before .before) (Print (c .before .next3 .given .0 .0) (c .before .next3 .given .0 .1 .0)) (c .before .next3 .given .1) in
-    omega (arith, m .0 .short, m .1, m .2, m .4, m .5)
+add-total-2 c = let m = past-print c in omega (arith, m .0 .short, m .1, m .2, m .4, m .5)
 
 loop-less-3 : tie.Need-loop-less-3 Inv-loop μ-loop
-loop-less-3 c =
-    let m = moved (c .before .before .before) (Print (c .before .next3 .given .0 .0) (c .before .next3 .given .0 .1 .0)) (c .before .next3 .given .1) in
-    omega (arith, m .1, m .2, m .3, m .4, m .5)
+loop-less-3 c = let m = past-print c in omega (arith, m .1, m .2, m .3, m .4, m .5)
 
 loop-again-3 : tie.Need-loop-again-3 Inv-loop μ-loop
 loop-again-3 c =
-    let m = moved (c .before .before .before) (Print (c .before .next3 .given .0 .0) (c .before .next3 .given .0 .1 .0)) (c .before .next3 .given .1) in
-    (counted (c .before .before .before) (Print (c .before .next3 .given .0 .0) (c .before .next3 .given .0 .1 .0)) (c .before .next3 .given .1), omega (arith, m .1, m .3, m .4, m .5))
+    let m = past-print c in
+    (counted (c .before .before .before) (printed c) (c .before .next3 .given .1), omega (arith, m .1, m .3, m .4, m .5))
 
 enum-known-next-4 : tie.Need-enum-known-next-4 Inv-loop μ-loop
 enum-known-next-4 c = search needs
@@ -184,13 +191,13 @@ returns c =
     let d = c .before .before .before .before in
     let g = c .before .before .next4 .given in
     ap (λ (m : ℕ). bytes (d .before .loop .total + m)) (c .end-len .ensures)
-    ∙ sym (size-is (d .before .before .before .before .args .input .now) ∙ counted d (End (g .0 .0)) (g .1))
+    ∙ sym (size-is (source d) ∙ counted d (End (g .0 .0)) (g .1))
 
 enum-known-next-5 : tie.Need-enum-known-next-5 Inv-loop μ-loop
 enum-known-next-5 c = search needs
 
 returns-2 : tie.Need-returns-2 Inv-loop μ-loop
-returns-2 c = sym (size-is (c .before .before .before .before .before .before .before .args .input .now) ∙ counted (c .before .before .before) (Refused (c .before .next5 .given .0 .0) (c .before .next5 .given .0 .1 .0) (c .before .next5 .given .0 .1 .1 .0)) (c .before .next5 .given .1))
+returns-2 c = let d = c .before .before .before in let g = c .before .next5 .given in sym (size-is (source d) ∙ counted d (Refused (g .0 .0) (g .0 .1 .0) (g .0 .1 .1 .0)) (g .1))
 
 pub measure-spec : {M : Type 1} → statement M
 measure-spec =

@@ -25,13 +25,17 @@ Inv-loop input out₀ at to₀ here₀ out to here = Toward out to (linesOf (fro
 abbrev μ-loop : tie.MeasureT-loop
 μ-loop input out₀ at to₀ here₀ out to here = length input - here .place
 
+-- the input, where a step was taken
+abbrev source : tie.After-step Inv-loop μ-loop → List ℕ
+source d = d .before .before .before .before .args .input .now
+
 -- what is left to write, by the answer that the loop matched
 rest-is : (d : tie.After-step Inv-loop μ-loop) (q : Answer) → d .step .result ≡ q
-    → linesOf (frontFrames (d .before .before .before .before .args .input .now) (d .before .loop .here)) ≡ linesOf (lead epl (List ℕ) frameOf (d .before .before .before .before .args .input .now) (onStep (d .before .before .before .before .args .input .now) q))
-rest-is d q k = lead-by (d .before .before .before .before .args .input .now) (d .before .loop .here) (d .step .result) q (d .step .ensures) k
+    → linesOf (frontFrames (source d) (d .before .loop .here)) ≡ linesOf (lead epl (List ℕ) frameOf (source d) (onStep (source d) q))
+rest-is d q k = lead-by (source d) (d .before .loop .here) (d .step .result) q (d .step .ensures) k
 
-moved : (d : tie.After-step Inv-loop μ-loop) (q : Answer) → d .step .result ≡ q → Moved (d .before .before .before .before .args .input .now) (d .before .loop .here) q
-moved d q k = moved-by (d .before .before .before .before .args .input .now) (d .before .loop .here) (d .step .result) q (d .step .ensures) k
+moved : (d : tie.After-step Inv-loop μ-loop) (q : Answer) → d .step .result ≡ q → Moved (source d) (d .before .loop .here) q
+moved d q k = moved-by (source d) (d .before .loop .here) (d .step .result) q (d .step .ensures) k
 
 loop-holds : tie.Need-loop-holds Inv-loop μ-loop
 loop-holds c = begin _ _ _
@@ -48,21 +52,24 @@ same-length c = c .before .before .loop .inv .long
 returns : tie.Need-returns Inv-loop μ-loop
 returns c =
     let d = c .before in
-    finish (d .before .loop .inv) (rest-is d (d .step .result) refl ∙ lead-none (d .before .before .before .before .args .input .now) (d .step .result) (c .match .keys2))
+    finish (d .before .loop .inv) (rest-is d (d .step .result) refl ∙ lead-none (source d) (d .step .result) (c .match .keys2))
 
 put-frame-requires : tie.Need-put-frame-requires Inv-loop μ-loop
 put-frame-requires c κs =
-    let d = c .before .before .before .before in
-    let s = d .before .before .before .before .args .input .now in
-    room (d .before .loop .inv) (lineOf (frameOf s (c .before .before .next .given .0 .1 .0))) (linesOf (frontFrames s (c .before .before .next .given .0 .0))) (d .before .before .before .before .pre) (rest-is d (Element (c .before .before .next .given .0 .0) (c .before .before .next .given .0 .1 .0)) (c .before .before .next .given .1))
+    let element = c .before .before in let d = element .before .before in let g = element .next .given in
+    room (d .before .loop .inv) (lineOf (frameOf (source d) (g .0 .1 .0))) (linesOf (frontFrames (source d) (g .0 .0))) (d .before .before .before .before .pre)
+    (rest-is d (Element (g .0 .0) (g .0 .1 .0)) (g .1))
 
 loop-less : tie.Need-loop-less Inv-loop μ-loop
-loop-less c = omega (arith, moved (c .before .before .before .before .before .before .before) (Element (c .before .before .before .before .before .next .given .0 .0) (c .before .before .before .before .before .next .given .0 .1 .0)) (c .before .before .before .before .before .next .given .1))
+loop-less c =
+    let put-one = c .before .before in let element = put-one .before .before .before in let g = element .next .given in
+    omega (arith, moved (element .before .before) (Element (g .0 .0) (g .0 .1 .0)) (g .1))
 
 loop-again : tie.Need-loop-again Inv-loop μ-loop
 loop-again c =
-    let d = c .before .before .before .before .before .before .before in
-    put (d .before .loop .inv) (linesOf (frontFrames (d .before .before .before .before .args .input .now) (c .before .before .before .before .before .next .given .0 .0))) (rest-is d (Element (c .before .before .before .before .before .next .given .0 .0) (c .before .before .before .before .before .next .given .0 .1 .0)) (c .before .before .before .before .before .next .given .1)) (c .before .before .put-frame .ensures)
+    let put-one = c .before .before in let element = put-one .before .before .before in let g = element .next .given in
+    let d = element .before .before in
+    put (d .before .loop .inv) (linesOf (frontFrames (source d) (g .0 .0))) (rest-is d (Element (g .0 .0) (g .0 .1 .0)) (g .1)) (put-one .put-frame .ensures)
 
 pub put-elements-spec : {M : Type 1} → statement M
 put-elements-spec =

@@ -11,7 +11,7 @@ put-pending-requires : tie.Need-put-pending-requires
 put-pending-requires c κs = omega (arith, length-pending (c .before .before .before .args .n) (c .before .if1 .taken))
 
 returns : tie.Need-returns
-returns c = rw (pending-some (c .before .before .before .before .before .before .args .n) (omega arith)) (c .before .before .put-pending .ensures)
+returns c = let put = c .before .before in rw (pending-some (put .before .before .before .before .args .n) (omega arith)) (put .put-pending .ensures)
 
 returns-2 : tie.Need-returns-2
 returns-2 c = rw (pending-none (c .before .before .args .n) (c .if1 .left)) (record { wrote = wrote refl; next = omega arith })

@@ -28,14 +28,17 @@ put-label-frame-requires c κs = let a = c .before .before .before .before .args
 put-elements-requires : tie.Need-put-elements-requires
 put-elements-requires c κs =
     let k = c .before .before .before in
-    let a = k .before .before .before .before .before .args in
-    omega (arith, length-label (a .p .count) (a .p .counts) (frontFrames (a .input .now) (a .first)), k .put-label-frame .ensures .next, k .put-label-frame .ensures .wrote .long, length-frame (a .p .count) (a .p .counts))
+    let counts = k .before .before in
+    let a = counts .before .before .before .args in
+    let w = k .put-label-frame .ensures in
+    omega (arith, length-label (a .p .count) (a .p .counts) (frontFrames (a .input .now) (a .first)), w .next, w .wrote .long, length-frame (a .p .count) (a .p .counts))
 
 returns : tie.Need-returns
 returns c =
     let w = c .before .before in
     let k = w .before .before .before .before in
-    let a = k .before .before .before .before .before .args in
+    let counts = k .before .before in
+    let a = counts .before .before .before .args in
     put-both (lineOf (labelFrame (a .p .count) (a .p .counts))) (linesOf (frontFrames (a .input .now) (a .first))) (k .put-label-frame .ensures) (w .put-elements .ensures)
 
 pub put-label-spec : {M : Type 1} → statement M

@@ -26,7 +26,7 @@ abbrev μ-loop : tie.MeasureT-loop
 
 -- the input, where a step was taken
 abbrev source : tie.After-step Inv-loop μ-loop → List ℕ
-source d = d .before .before .before .before .before .before .args .input .now
+source d = let started = d .before .before in started .before .before .before .before .args .input .now
 
 -- what is left to write, by the answer that the loop matched
 rest-is : (d : tie.After-step Inv-loop μ-loop) (q : Answer) → d .step .result ≡ q
@@ -78,22 +78,23 @@ enum-known-next-3 c = search needs
 
 put-label-requires : tie.Need-put-label-requires Inv-loop μ-loop
 put-label-requires c κs =
-    let d = c .before .before .before .before in
+    let n = c .before .before in let d = n .before .before in
     let l = d .before .loop in
-    room (l .inv .0) (labelText (source d) (c .before .before .next3 .given .0 .1 .0) (l .first)) (textFrom (source d) (c .before .before .next3 .given .0 .0)) (omega arith) (rest-is d (Print (c .before .before .next3 .given .0 .0) (c .before .before .next3 .given .0 .1 .0)) (c .before .before .next3 .given .1))
+    let g = n .next3 .given in
+    room (l .inv .0) (labelText (source d) (g .0 .1 .0) (l .first)) (textFrom (source d) (g .0 .0)) (omega arith) (rest-is d (Print (g .0 .0) (g .0 .1 .0)) (g .1))
 
 loop-less-3 : tie.Need-loop-less-3 Inv-loop μ-loop
 loop-less-3 c =
-    let n = c .before .before .before .before .before in
+    let p = c .before .before in let n = p .before .before .before in
     let g = n .next3 .given in
     omega (arith, moved (n .before .before) (Print (g .0 .0) (g .0 .1 .0)) (g .1))
 
 loop-again-3 : tie.Need-loop-again-3 Inv-loop μ-loop
 loop-again-3 c =
-    let n = c .before .before .before .before .before in
+    let p = c .before .before in let n = p .before .before .before in
     let d = n .before .before in
     let g = n .next3 .given in
-    (put (d .before .loop .inv .0) (textFrom (source d) (g .0 .0)) (rest-is d (Print (g .0 .0) (g .0 .1 .0)) (g .1)) (c .before .before .put-label .ensures), refl)
+    (put (d .before .loop .inv .0) (textFrom (source d) (g .0 .0)) (rest-is d (Print (g .0 .0) (g .0 .1 .0)) (g .1)) (p .put-label .ensures), refl)
 
 enum-known-next-4 : tie.Need-enum-known-next-4 Inv-loop μ-loop
 enum-known-next-4 c = search needs
@@ -107,13 +108,15 @@ put-end-requires c κs =
 same-length : tie.Need-same-length Inv-loop μ-loop
 same-length c =
     let p = c .before .before in
-    p .put-end .ensures .wrote .long ∙ p .before .before .before .before .before .before .loop .inv .0 .long
+    let end = p .before .before .before in
+    p .put-end .ensures .wrote .long ∙ end .before .before .before .loop .inv .0 .long
 
 returns : tie.Need-returns Inv-loop μ-loop
 returns c =
     let p = c .before .before in
-    let d = p .before .before .before .before .before in
-    let g = p .before .before .before .next4 .given in
+    let end = p .before .before .before in
+    let d = end .before .before in
+    let g = end .next4 .given in
     finish (put (d .before .loop .inv .0) [] (rest-is d (End (g .0 .0)) (g .1) ∙ sym (append-nil (pendingLine (g .0 .0 .pending)))) (p .put-end .ensures)) refl
 
 enum-known-next-5 : tie.Need-enum-known-next-5 Inv-loop μ-loop

@@ -16,8 +16,9 @@ returns-2 : tie.Need-returns-2
 returns-2 c =
     let q = c .before .before in
     let l = q .before .before .before .before in
-    let a = l .before .before .before .before .before .args in
-    prints-due (a .input .now) (a .out .now) (dueOf (a .input .now)) (l .before .before .if1 .left) (l .list .ensures) (q .put-answer2 .ensures)
+    let short = l .before .before in
+    let a = short .before .before .before .args in
+    prints-due (a .input .now) (a .out .now) (dueOf (a .input .now)) (short .if1 .left) (l .list .ensures) (q .put-answer2 .ensures)
 
 pub print-listing-spec : {M : Type 1} → statement M
 print-listing-spec =

@@ -6,8 +6,8 @@ use Rattle.file_listing.proofs.printing.put_answer.Tie as tie
 
 returns : tie.Need-returns
 returns c =
-    let a = c .before .before .before .before .before in
-    rw (c .before .before .a2 .given .1) (prints-nothing (a .args .out .now) _ _ (c .if1 .taken))
+    let refused = c .before .before in
+    rw (refused .a2 .given .1) (prints-nothing (refused .before .before .before .args .out .now) _ _ (c .if1 .taken))
 
 returns-3 : tie.Need-returns-3
 returns-3 c =

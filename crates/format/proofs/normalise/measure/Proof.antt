@@ -19,15 +19,19 @@ Inv-loop input at₀ total₀ at total = (at ≤ length input) × (total ≤ 2 *
 abbrev μ-loop : tie.MeasureT-loop
 μ-loop input at₀ total₀ at total = length input - at
 
--- what stands first is known
-abbrev src : tie.After-block-len Inv-loop μ-loop → List ℕ
-src d = d .before .before .before .before .before .args .input .now
+-- what stands first is known: the loop that it is in, and the input
+module _ (d : tie.After-block-len Inv-loop μ-loop) where
+  abbrev turn : tie.At-loop Inv-loop μ-loop
+  turn = d .before .before .before
 
-stands : (d : tie.After-block-len Inv-loop μ-loop) → Stands (src d) (d .before .before .before .loop .at) (d .block-len .result)
-stands d = record { in-src = d .before .before .loop-test .taken; blocks = d .block-len .ensures }
+  abbrev src : List ℕ
+  src = turn .before .before .args .input .now
+
+  stands : Stands src (turn .loop .at) (d .block-len .result)
+  stands = record { in-src = d .before .before .loop-test .taken; blocks = d .block-len .ensures }
 
 -- a line, its size and what is left of it
-line : (e : tie.After-line-len Inv-loop μ-loop) → let d = e .before .before in Lined (src d) (d .before .before .before .loop .at) (e .line-len .result .size) (e .line-len .result .len)
+line : (e : tie.After-line-len Inv-loop μ-loop) → let d = e .before .before in Lined (src d) (turn d .loop .at) (e .line-len .result .size) (e .line-len .result .len)
 line e = lined (stands (e .before .before)) (e .before .if1 .left) (e .line-len .ensures .size) (e .line-len .ensures .len)
 
 loop-again : tie.Need-loop-again Inv-loop μ-loop

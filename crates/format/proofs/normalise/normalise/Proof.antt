@@ -14,7 +14,7 @@ use Rattle.format.proofs.normalise.normalise.Statement.{statement}
 use Rattle.format.proofs.normalise.normalise.Tie as tie
 
 -- where the text is written it has room
-fits : (c : tie.Joined2) → let a = c .before .before .before .before .before .args in length (normalised (a .input .now)) ≤ length (a .out .now)
+fits : (c : tie.Joined2) → let r = c .before in let a = r .before .before .before .before .args in length (normalised (a .input .now)) ≤ length (a .out .now)
 fits c =
     let r = c .before in
     let a = r .before .before .before .before .args in

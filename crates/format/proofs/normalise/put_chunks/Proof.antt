@@ -47,13 +47,13 @@ put-ended-requires c κs =
     room (turn d .loop .inv .1) (ended (f .first .result .now)) (normalised (drop (place d + d .block-len .result) (src d))) (omega arith) (whole f)
 
 add-at : tie.Need-add-at Inv-loop μ-loop
-add-at c = let d = c .before .before .before .before .before .before in omega (arith, block-in (stands d))
+add-at c = let f = c .before .before .before .before in omega (arith, block-in (stands (f .before .before)))
 
 loop-less : tie.Need-loop-less Inv-loop μ-loop
 loop-less c =
-    let t = c .before .before .before .before .before in
-    let d = t .before in
-    omega (arith, t .if1 .taken, block-in (stands d))
+    let f = c .before .before .before .before in
+    let d = f .before .before in
+    omega (arith, f .before .if1 .taken, block-in (stands d))
 
 loop-again : tie.Need-loop-again Inv-loop μ-loop
 loop-again c =

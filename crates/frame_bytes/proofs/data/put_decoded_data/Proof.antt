@@ -14,14 +14,16 @@ use Rattle.frame_bytes.proofs.data.put_decoded_data.Statement.{statemen
 use Rattle.frame_bytes.proofs.data.put_decoded_data.Tie as tie
 
 put-decoded-requires : tie.Need-put-decoded-requires
-put-decoded-requires c κs = omega (arith, ap (λ (l : List ℕ). length (decode l)) (c .before .before .before .before .before .before .part .ensures))
+put-decoded-requires c κs = let size = c .before .before .before in omega (arith, ap (λ (l : List ℕ). length (decode l)) (size .before .before .before .part .ensures))
 
 returns : tie.Need-returns
 returns c =
-    let t = c .before .before .before .before .before .before .before .before .before .part .ensures in
-    let a = c .before .before .before .before .before .before .before .before .before .before .before .before .args in
-    let n : c .before .before .before .before .before .before .before .before .decoded-len .result ≡ length (decode (part (a .input .now) (a .d))) = omega (arith, ap (λ (l : List ℕ). length (decode l)) t) in
-    then (retold (ap be32 n) (c .before .before .before .before .before .before .put-u32 .ensures)) (same (ap decode t) (c .before .before .put-decoded .ensures))
+    let put = c .before .before in let size = put .before .before .before .before in
+    let counted = size .before .before in let taken = counted .before in
+    let t = taken .part .ensures in
+    let a = taken .before .before .before .args in
+    let n : counted .decoded-len .result ≡ length (decode (part (a .input .now) (a .d))) = omega (arith, ap (λ (l : List ℕ). length (decode l)) t) in
+    then (retold (ap be32 n) (size .put-u32 .ensures)) (same (ap decode t) (put .put-decoded .ensures))
 
 pub put-decoded-data-spec : {M : Type 1} → statement M
 put-decoded-data-spec =

@@ -12,7 +12,7 @@ use Rattle.frame_bytes.proofs.data.put_payload.Statement.{statement}
 use Rattle.frame_bytes.proofs.data.put_payload.Tie as tie
 
 put-sized-requires : tie.Need-put-sized-requires
-put-sized-requires c κs = omega (arith, ap length (c .before .before .before .before .before .part .ensures))
+put-sized-requires c κs = let total = c .before .before .before in omega (arith, ap length (total .before .before .part .ensures))
 
 returns : tie.Need-returns
 returns c =

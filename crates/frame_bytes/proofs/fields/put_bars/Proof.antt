@@ -11,13 +11,13 @@ returns : tie.Need-returns
 unfolding barBytes
 returns c =
     let line = c .before .before in
-    let height = line .before .before .before .before in
-    let narrow = height .before .before .before .before .before in
-    let turned = narrow .before .before .before .before .before in
+    let height = line .before .before .before .before in let height-told = height .before in
+    let narrow = height-told .before .before .before .before in let narrow-told = narrow .before in
+    let turned = narrow-told .before .before .before .before in
     let b = turned .before .before .before .args .b in
     then (then (then (turned .put-rotation .ensures)
-    (rw (back32 (b .narrow) (narrow .before .struct-told .given .1 .0 .1)) at (narrow .put-i32 .ensures)))
-    (rw (back32 (b .height) (height .before .struct-told2 .given .1 .1 .0 .1)) at (height .put-i322 .ensures)))
+    (rw (back32 (b .narrow) (narrow-told .struct-told .given .1 .0 .1)) at (narrow .put-i32 .ensures)))
+    (rw (back32 (b .height) (height-told .struct-told2 .given .1 .1 .0 .1)) at (height .put-i322 .ensures)))
     (line .put-flag .ensures)
 
 pub put-bars-spec : {M : Type 1} → statement M

@@ -10,12 +10,12 @@ use Rattle.frame_bytes.proofs.fields.put_head.Tie as tie
 returns : tie.Need-returns
 unfolding head
 returns c =
-    let y = c .before .before in
-    let x = y .before .before .before .before .before in
-    let k = x .before .before .before .before .before in
+    let y = c .before .before in let y-told = y .before in
+    let x = y-told .before .before .before .before in let x-told = x .before in
+    let k = x-told .before .before .before .before in
     let p = k .before .before .before .args .p in
-    then (then (k .put-byte .ensures) (rw (back32 (p .x) (x .before .struct-told .given .0 .1)) at (x .put-i32 .ensures)))
-    (rw (back32 (p .y) (y .before .struct-told2 .given .1 .0 .1)) at (y .put-i322 .ensures))
+    then (then (k .put-byte .ensures) (rw (back32 (p .x) (x-told .struct-told .given .0 .1)) at (x .put-i32 .ensures)))
+    (rw (back32 (p .y) (y-told .struct-told2 .given .1 .0 .1)) at (y .put-i322 .ensures))
 
 pub put-head-spec : {M : Type 1} → statement M
 put-head-spec =

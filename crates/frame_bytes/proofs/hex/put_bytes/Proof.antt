@@ -44,8 +44,8 @@ loop-less c = search needs
 
 loop-again : tie.Need-loop-again Inv-loop μ-loop
 loop-again c =
-    let l = c .before .before .before .before .before .before in
-    (omega arith, copy-step (l .before .before .before .args .src .now) (l .loop .inv .1) (c .before .before .before .before .before .loop-test .taken) (c .before .before .put-byte .ensures))
+    let put = c .before .before in let more = put .before .before .before in let l = more .before in
+    (omega arith, copy-step (l .before .before .before .args .src .now) (l .loop .inv .1) (more .loop-test .taken) (put .put-byte .ensures))
 
 same-length : tie.Need-same-length Inv-loop μ-loop
 same-length c = c .before .loop .inv .1 .wrote .long

@@ -69,19 +69,21 @@ part-t-end c = search needs
 
 loop-less : tie.Need-loop-less Inv-loop μ-loop
 loop-less c =
-    let l = c .before .before .before .before .before .before .before .before in
-    let p = c .before .before .before .before .before .before in
+    let put = c .before .before .before in let p = put .before .before .before in
+    let l = p .before .before in
     let h = left-less (l .loop .t .now) (p .part-len .result) (p .before .loop-test .taken) (p .part-len .ensures) in
     omega (arith, p .part-len .ensures .some (p .before .loop-test .taken))
 
 loop-again : tie.Need-loop-again Inv-loop μ-loop
 loop-again c =
-    let l = c .before .before .before .before .before .before .before .before in
-    let p = c .before .before .before .before .before .before in
+    let put = c .before .before .before in let p = put .before .before .before in
+    let l = p .before .before in
     let t = l .loop .t .now in
     let k = p .part-len .result in
-    let h = left-less t k (p .before .loop-test .taken) (p .part-len .ensures) in
-    (omega arith, left-step (l .loop .inv .1) (shown (take k t)) (decode (take (length t - k) (drop k t))) (decode-left t k (p .before .loop-test .taken) (p .part-len .ensures)) (c .before .before .before .put-part .ensures))
+    let h = left-less t k (p .before .loop-test .taken) (p .part-len .ensures) in (
+      omega arith,
+      left-step (l .loop .inv .1) (shown (take k t)) (decode (take (length t - k) (drop k t))) (decode-left t k (p .before .loop-test .taken) (p .part-len .ensures)) (put .put-part .ensures),
+    )
 
 same-length : tie.Need-same-length Inv-loop μ-loop
 same-length c = c .before .loop .inv .1 .put .wrote .long

@@ -10,16 +10,24 @@ use Rattle.frame_bytes.proofs.hex.put_part.Statement.{statement}
 use Rattle.frame_bytes.proofs.hex.put_part.Tie as tie
 
 put-bytes-requires : tie.Need-put-bytes-requires
-put-bytes-requires c κs = let e = ap length (shown-whole (c .before .before .before .before .before .args .p .now) (sym (c .before .before .is-whole .ensures) ∙ c .before .if1 .taken)) in omega arith
+put-bytes-requires c κs =
+    let whole = c .before in let asked = whole .before in
+    let e = ap length (shown-whole (asked .before .before .before .args .p .now) (sym (asked .is-whole .ensures) ∙ whole .if1 .taken)) in omega arith
 
 put-bytes-requires-2 : tie.Need-put-bytes-requires-2
-put-bytes-requires-2 c κs = let e = ap length (shown-part (c .before .before .before .before .before .before .args .p .now) (sym (c .before .before .before .is-whole .ensures) ∙ c .before .before .if1 .left)) in omega arith
+put-bytes-requires-2 c κs =
+    let cut = c .before .before in let asked = cut .before in
+    let e = ap length (shown-part (asked .before .before .before .args .p .now) (sym (asked .is-whole .ensures) ∙ cut .if1 .left)) in omega arith
 
 returns : tie.Need-returns
-returns c = same (sym (shown-whole (c .before .before .before .before .before .before .before .before .args .p .now) (sym (c .before .before .before .before .before .is-whole .ensures) ∙ c .before .before .before .before .if1 .taken))) (c .before .before .put-bytes .ensures)
+returns c =
+    let put = c .before .before in let whole = put .before .before in let asked = whole .before in
+    same (sym (shown-whole (asked .before .before .before .args .p .now) (sym (asked .is-whole .ensures) ∙ whole .if1 .taken))) (put .put-bytes .ensures)
 
 returns-2 : tie.Need-returns-2
-returns-2 c = same (sym (shown-part (c .before .before .before .before .before .before .before .before .before .args .p .now) (sym (c .before .before .before .before .before .before .is-whole .ensures) ∙ c .before .before .before .before .before .if1 .left))) (c .before .before .put-bytes2 .ensures)
+returns-2 c =
+    let put = c .before .before in let cut = put .before .before .before in let asked = cut .before in
+    same (sym (shown-part (asked .before .before .before .args .p .now) (sym (asked .is-whole .ensures) ∙ cut .if1 .left))) (put .put-bytes2 .ensures)
 
 pub put-part-spec : {M : Type 1} → statement M
 put-part-spec =

@@ -6,7 +6,7 @@ use Rattle.frame_bytes.proofs.hex.put_sized.Statement.{statement}
 use Rattle.frame_bytes.proofs.hex.put_sized.Tie as tie
 
 returns : tie.Need-returns
-returns c = then (c .before .before .before .before .before .before .put-u32 .ensures) (c .before .before .put-bytes .ensures)
+returns c = let text = c .before .before in let size = text .before .before .before .before in then (size .put-u32 .ensures) (text .put-bytes .ensures)
 
 pub put-sized-spec : {M : Type 1} → statement M
 put-sized-spec = tie.close (tie.spec (λ c κs. search needs) (λ c κs. search needs) (λ c. search needs) returns)

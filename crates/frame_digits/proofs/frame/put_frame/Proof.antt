@@ -12,10 +12,10 @@ put-element-requires : tie.Need-put-element-requires
 put-element-requires c κs = let a = c .before .before .before .args in omega (arith, length-line (frameOf (a .input .now) (a .e)))
 
 put-lf-requires : tie.Need-put-lf-requires
-put-lf-requires c κs = let a = c .before .before .before .before .before .before .before .args in omega (arith, length-line (frameOf (a .input .now) (a .e)))
+put-lf-requires c κs = let put = c .before .before .before in let a = put .before .before .before .before .args in omega (arith, length-line (frameOf (a .input .now) (a .e)))
 
 returns : tie.Need-returns
-returns c = line (c .before .before .before .before .before .before .put-element .ensures) (c .before .before .put-lf .ensures)
+returns c = let lf = c .before .before in let put = lf .before .before .before .before in line (put .put-element .ensures) (lf .put-lf .ensures)
 
 pub put-frame-spec : {M : Type 1} → statement M
 put-frame-spec =

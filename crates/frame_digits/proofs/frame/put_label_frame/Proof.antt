@@ -11,16 +11,16 @@ returns : tie.Need-returns
 unfolding labelFrame be32
 returns c =
     let lf = c .before .before in
-    let copies = lf .before .before .before .before in
-    let sets = copies .before .before .before .before .before in
-    let count = sets .before .before .before .before .before in
+    let copies = lf .before .before .before .before in let copies-told = copies .before in
+    let sets = copies-told .before .before .before .before in let sets-told = sets .before in
+    let count = sets-told .before .before .before .before in
     let kind = count .before .before .before .before in
     let q = kind .before .before .before .args .counts in
     line
     (then (kind .put-byte .ensures)
     (then (count .put-u32 .ensures)
-    (then (rw (back32 (q .sets) (sets .before .struct-told .given .0 .1)) at (sets .put-i32 .ensures))
-    (rw (back32 (q .copies) (copies .before .struct-told2 .given .1 .0 .1)) at (copies .put-i322 .ensures)))))
+    (then (rw (back32 (q .sets) (sets-told .struct-told .given .0 .1)) at (sets .put-i32 .ensures))
+    (rw (back32 (q .copies) (copies-told .struct-told2 .given .1 .0 .1)) at (copies .put-i322 .ensures)))))
     (lf .put-lf .ensures)
 
 pub put-label-frame-spec : {M : Type 1} → statement M

@@ -6,7 +6,9 @@ use Rattle.frame_digits.proofs.frame.put_pending.Statement.{statement}
 use Rattle.frame_digits.proofs.frame.put_pending.Tie as tie
 
 returns : tie.Need-returns
-returns c = line (then (c .before .before .before .before .before .before .before .before .before .before .put-byte .ensures) (c .before .before .before .before .before .before .put-u32 .ensures)) (c .before .before .put-lf .ensures)
+returns c =
+    let lf = c .before .before in let number = lf .before .before .before .before in let kind = number .before .before .before .before in
+    line (then (kind .put-byte .ensures) (number .put-u32 .ensures)) (lf .put-lf .ensures)
 
 pub put-pending-spec : {M : Type 1} → statement M
 put-pending-spec =

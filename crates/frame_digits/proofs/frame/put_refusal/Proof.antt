@@ -6,7 +6,10 @@ use Rattle.frame_digits.proofs.frame.put_refusal.Statement.{statement}
 use Rattle.frame_digits.proofs.frame.put_refusal.Tie as tie
 
 returns : tie.Need-returns
-returns c = line (then (c .before .before .before .before .before .before .before .before .before .before .before .before .before .before .put-byte .ensures) (then (c .before .before .before .before .before .before .before .before .before .before .put-byte2 .ensures) (c .before .before .before .before .before .before .put-u32 .ensures))) (c .before .before .put-lf .ensures)
+returns c =
+    let lf = c .before .before in let place = lf .before .before .before .before in
+    let number = place .before .before .before .before in let kind = number .before .before .before .before in
+    line (then (kind .put-byte .ensures) (then (number .put-byte2 .ensures) (place .put-u32 .ensures))) (lf .put-lf .ensures)
 
 pub put-refusal-spec : {M : Type 1} → statement M
 put-refusal-spec =

@@ -9,10 +9,10 @@ use Rattle.frame_digits.proofs.kinds.put_128.Tie as tie
 returns : tie.Need-returns
 unfolding fieldBytes
 returns c =
-    let by = c .before .before in
-    let bars = by .before .before .before .before .before in
+    let by = c .before .before in let mode = by .before in
+    let bars = mode .before .before .before .before in
     then (bars .put-bars .ensures)
-    (rw (by .before .mode .ensures) at (by .put-byte .ensures))
+    (rw (mode .mode .ensures) at (by .put-byte .ensures))
 
 pub put-128-spec : {M : Type 1} → statement M
 put-128-spec =

@@ -10,13 +10,13 @@ use Rattle.frame_digits.proofs.kinds.put_datamatrix.Tie as tie
 returns : tie.Need-returns
 unfolding fieldBytes
 returns c =
-    let rows = c .before .before in
-    let columns = rows .before .before .before .before .before in
-    let height = columns .before .before .before .before .before in
+    let rows = c .before .before in let rows-told = rows .before in
+    let columns = rows-told .before .before .before .before in let columns-told = columns .before in
+    let height = columns-told .before .before .before .before in
     let b = height .before .before .before .before .args .b in
     then (then (rw (back32 (b .height) (height .before .struct-told .given .0 .1)) at (height .put-i32 .ensures))
-    (rw (back32 (b .columns) (columns .before .struct-told2 .given .1 .0 .1)) at (columns .put-i322 .ensures)))
-    (rw (back32 (b .rows) (rows .before .struct-told3 .given .1 .1 .0 .1)) at (rows .put-i323 .ensures))
+    (rw (back32 (b .columns) (columns-told .struct-told2 .given .1 .0 .1)) at (columns .put-i322 .ensures)))
+    (rw (back32 (b .rows) (rows-told .struct-told3 .given .1 .1 .0 .1)) at (rows .put-i323 .ensures))
 
 pub put-datamatrix-spec : {M : Type 1} → statement M
 put-datamatrix-spec =

@@ -11,13 +11,13 @@ returns : tie.Need-returns
 unfolding extentBytes
 returns c =
     let mark = c .before .before in
-    let thickness = mark .before .before .before .before in
-    let height = thickness .before .before .before .before .before in
-    let width = height .before .before .before .before .before in
+    let thickness = mark .before .before .before .before in let thickness-told = thickness .before in
+    let height = thickness-told .before .before .before .before in let height-told = height .before in
+    let width = height-told .before .before .before .before in
     let x = width .before .before .before .before .args .x in
     then (then (then (rw (back32 (x .width) (width .before .struct-told .given .0 .1)) at (width .put-i32 .ensures))
-    (rw (back32 (x .height) (height .before .struct-told2 .given .1 .0 .1)) at (height .put-i322 .ensures)))
-    (rw (back32 (x .thickness) (thickness .before .struct-told3 .given .1 .1 .0 .1)) at (thickness .put-i323 .ensures)))
+    (rw (back32 (x .height) (height-told .struct-told2 .given .1 .0 .1)) at (height .put-i322 .ensures)))
+    (rw (back32 (x .thickness) (thickness-told .struct-told3 .given .1 .1 .0 .1)) at (thickness .put-i323 .ensures)))
     (mark .put-byte .ensures)
 
 pub put-drawn-spec : {M : Type 1} → statement M

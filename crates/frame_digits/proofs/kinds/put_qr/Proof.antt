@@ -10,11 +10,11 @@ use Rattle.frame_digits.proofs.kinds.put_qr.Tie as tie
 returns : tie.Need-returns
 unfolding fieldBytes
 returns c =
-    let letter = c .before .before in
-    let magnification = letter .before .before .before .before .before in
+    let letter = c .before .before in let level = letter .before in
+    let magnification = level .before .before .before .before in
     let b = magnification .before .before .before .before .args .b in
     then (rw (back32 (b .magnification) (magnification .before .struct-told .given .0 .1)) at (magnification .put-i32 .ensures))
-    (rw (letter .before .level .ensures) at (letter .put-byte .ensures))
+    (rw (level .level .ensures) at (letter .put-byte .ensures))
 
 pub put-qr-spec : {M : Type 1} → statement M
 put-qr-spec =

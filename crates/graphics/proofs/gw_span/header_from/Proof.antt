@@ -27,9 +27,9 @@ returns-2 c =
 
 returns-3 : tie.Need-returns-3
 returns-3 c =
-    let v = c .before in
+    let v = c .before in let l = v .before .before in
     rw (back32 (v .first-number .result) (v .first-number .ok))
-    (read-end _ _ _ (len (v .before .before)) (v .first-number .ensures) (v .before .before .before .before .before .pre) (c .if1 .left))
+    (read-end _ _ _ (len l) (v .first-number .ensures) (l .before .before .before .pre) (c .if1 .left))
 
 pub header-from-spec : {M : Type 1} → statement M
 header-from-spec =

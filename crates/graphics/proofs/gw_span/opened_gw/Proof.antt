@@ -15,6 +15,12 @@ use Rattle.graphics.proofs.gw_span.opened_gw.Tie as tie
 header : (d : tie.After-tail-two) → d .tail-two .result .now ≡ headerOf (d .before .before .before .args .rest .now)
 header d = d .tail-two .ensures ∙ ap (drop 2) (d .before .trim-line-start .ensures)
 
+-- where the header was cut out, of which four numbers were read
+abbrev opened : tie.After-struct-told → tie.After-tail-two
+opened a =
+    let l = a .before .before .before .before in let w = l .before .before .before in let y = w .before .before .before in
+    y .before .before .before .before
+
 returns : tie.Need-returns
 returns c =
     let x = c .before .before in
@@ -56,23 +62,25 @@ returns-4 c =
 
 sub-measure : tie.Need-sub-measure
 sub-measure c =
-    let t = c .before .before .before .before .before .before .before .before .before .before .before .before .before .before .before .before .before in
+    let t = opened (c .before .before .before) in
     omega (arith, ap length (header t), header-le (t .before .before .before .args .rest .now))
 
 measure-requires : tie.Need-measure-requires
 measure-requires c κs =
-    omega (arith, sub-measure c, c .before .before .before .before .before .before .before .before .before .before .before .before .before .before .before .before .before .before .before .before .good)
+    omega (arith, sub-measure c, opened (c .before .before .before) .before .before .before .good)
 
 returns-5 : tie.Need-returns-5
 returns-5 c =
-    let v = c .before in
-    let e = v .before .before .before .before .before in
-    let l = e .before .before in
-    let w = l .before .before .before in
-    let y = w .before .before .before in
-    let x = y .before .before .before in
+    let told4 = c .before in let told3 = told4 .before in let told2 = told3 .before in let told = told2 .before in
+    let e = told .before .before in let l = e .before .before in
+    let w = l .before .before .before in let y = w .before .before .before in let x = y .before .before .before in
     c .measure .ensures
-    ∙ rw (back32 (x .header-from .result .value) (v .before .before .before .struct-told .given .1 .0 .1), back32 (y .header-from2 .result .value) (v .before .before .struct-told2 .given .1 .0 .1), back32 (w .header-from3 .result .value) (v .before .struct-told3 .given .1 .0 .1), back32 (l .header-from4 .result .value) (v .struct-told4 .given .1 .0 .1))
+    ∙ rw (
+      back32 (x .header-from .result .value) (told .struct-told .given .1 .0 .1),
+      back32 (y .header-from2 .result .value) (told2 .struct-told2 .given .1 .0 .1),
+      back32 (w .header-from3 .result .value) (told3 .struct-told3 .given .1 .0 .1),
+      back32 (l .header-from4 .result .value) (told4 .struct-told4 .given .1 .0 .1),
+    )
     (four _ _ (header (x .before)) (x .before .before .before .before .pre)
     (closed (x .header-from .ensures) (y .before .if1 .left))
     (closed (y .header-from2 .ensures) (w .before .if2 .left))

@@ -33,20 +33,23 @@ returns-2 c =
 
 -- both files are accepted
 module _ (c : tie.Else2) where
+  abbrev walked-2 : tie.After-plain2
+  walked-2 = c .before .before
+
   abbrev walked-1 : tie.After-plain
-  walked-1 = c .before .before .before .before .before
+  walked-1 = walked-2 .before .before .before
 
   first-short : length (s walked-1) ≤ longest
-  first-short = walk-short (s walked-1) (walked-1 .plain .result) (walked-1 .plain .ensures) (c .before .before .before .if1 .left)
+  first-short = walk-short (s walked-1) (walked-1 .plain .result) (walked-1 .plain .ensures) (walked-2 .before .if1 .left)
 
   second-short : length (t walked-1) ≤ longest
-  second-short = walk-short (t walked-1) (c .before .before .plain2 .result) (c .before .before .plain2 .ensures) (c .if2 .left)
+  second-short = walk-short (t walked-1) (walked-2 .plain2 .result) (walked-2 .plain2 .ensures) (c .if2 .left)
 
   first : Accepted (s walked-1)
-  first = walk-accepted (s walked-1) (walked-1 .plain .result) (walked-1 .plain .ensures) (c .before .before .before .if1 .left)
+  first = walk-accepted (s walked-1) (walked-1 .plain .result) (walked-1 .plain .ensures) (walked-2 .before .if1 .left)
 
   second : Accepted (t walked-1)
-  second = walk-accepted (t walked-1) (c .before .before .plain2 .result) (c .before .before .plain2 .ensures) (c .if2 .left)
+  second = walk-accepted (t walked-1) (walked-2 .plain2 .result) (walked-2 .plain2 .ensures) (c .if2 .left)
 
   too-long : {n : ℕ} → n ≡ length (joinedText (s walked-1) (t walked-1)) → longest < n → Dues (s walked-1) (t walked-1) 0 (denied 25 n)
   too-long e h = rw e (due-long (s walked-1) (t walked-1) first second (omega arith))
@@ -85,16 +88,5 @@ returns-5 c =
 pub join-spec : {M : Type 1} → statement M
 join-spec =
     tie.close
-    (tie.spec
-    (λ c κs. search needs)
-    returns
-    (λ c κs. search needs)
-    returns-2
-    joined-len-requires
-    (λ c κs. search needs)
-    returns-3
-    (λ c κs. search needs)
-    returns-4
-    (λ c κs. search needs)
-    (λ c. search needs)
-    returns-5)
+    (tie.spec (λ c κs. search needs) returns (λ c κs. search needs) returns-2 joined-len-requires (λ c κs. search needs)
+    returns-3 (λ c κs. search needs) returns-4 (λ c κs. search needs) (λ c. search needs) returns-5)

@@ -33,10 +33,10 @@ abbrev μ-loop : tie.MeasureT-loop
 
 -- the input and the cursor, and the state behind the lines that were told, where an answer was had
 abbrev source : tie.After-answer-from Inv-loop μ-loop → List ℕ
-source d = d .before .before .before .before .before .before .args .input .now
+source d = let made = d .before .before .before .before in made .before .before .args .input .now
 
 abbrev from : tie.After-answer-from Inv-loop μ-loop → Cursor
-from d = d .before .before .before .before .before .before .args .c
+from d = let made = d .before .before .before .before in made .before .before .args .c
 
 abbrev behind : tie.After-answer-from Inv-loop μ-loop → WalkState
 behind d = d .before .pass-told .result
@@ -119,11 +119,15 @@ enum-known-next-3 c = search needs
 sub-t17 : tie.Need-sub-t17 Inv-loop μ-loop
 sub-t17 c = search needs
 
+-- the label that was printed, where its reference was read
+abbrev printed : tie.After-r2 Inv-loop μ-loop → tie.After-next3 Inv-loop μ-loop
+printed r = r .before .before
+
 returns : tie.Need-returns Inv-loop μ-loop
 returns c =
-    let d = c .before .before .before .before .before .before .before in
+    let p = printed (c .before .before .before) in let d = p .before .before in
     let l = d .before .before .loop in
-    let g = c .before .before .before .before .before .next3 .given in
+    let g = p .next3 .given in
     let q = Print (g .0 .0) (g .0 .1 .0) in
     let m = moved d q (g .1) in
     let at = g .0 .0 .place in
@@ -134,16 +138,16 @@ returns c =
 
 loop-less-3 : tie.Need-loop-less-3 Inv-loop μ-loop
 loop-less-3 c =
-    let d = c .before .before .before .before .before .before in
-    let g = c .before .before .before .before .next3 .given in
+    let p = printed (c .before .before) in let d = p .before .before in
+    let g = p .next3 .given in
     let m = moved d (Print (g .0 .0) (g .0 .1 .0)) (g .1) in
     omega (arith, m .0, m .1, d .before .pass-told .ensures .later)
 
 loop-again-3 : tie.Need-loop-again-3 Inv-loop μ-loop
 loop-again-3 c =
-    let d = c .before .before .before .before .before .before in
+    let p = printed (c .before .before) in let d = p .before .before in
     let l = d .before .before .loop in
-    let g = c .before .before .before .before .next3 .given in
+    let g = p .next3 .given in
     let q = Print (g .0 .0) (g .0 .1 .0) in
     let m = moved d q (g .1) in
     let at = g .0 .0 .place in

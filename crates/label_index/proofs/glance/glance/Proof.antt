@@ -10,15 +10,20 @@ use borrow.Author.Needs.{needs}
 use Rattle.label_index.proofs.glance.glance.Statement.{statement}
 use Rattle.label_index.proofs.glance.glance.Tie as tie
 
-abbrev source : tie.After-draws → List ℕ
-source d = d .before .before .before .before .before .before .before .before .before .args .rest .now
+abbrev source : tie.After-tells → List ℕ
+source t = t .before .before .before .before .args .rest .now
+
+-- where the first byte of a line was judged, whose size was told
+abbrev judged : tie.After-line-size → tie.After-tells
+judged l = l .before .before .before
 
 -- a line, by whether it draws
-told : (d : tie.After-draws) (b : Bool) → d .draws .result ≡ b → toldBy (d .before .before .line-size .result) b ≡ glanceOf (source d)
+told : (d : tie.After-draws) (b : Bool) → d .draws .result ≡ b → toldBy (d .before .before .line-size .result) b ≡ glanceOf (source (judged (d .before .before)))
 told d b k =
     let l = d .before .before in
     let f = l .before in
-    glance-by (source d) (f .find .result) (l .line-size .result) b (f .find .ensures .is) (l .line-size .ensures) (sym (f .before .before .tells .ensures) ∙ f .before .if2 .taken) (sym (d .draws .ensures) ∙ k)
+    glance-by (source (judged l)) (f .find .result) (l .line-size .result) b (f .find .ensures .is) (l .line-size .ensures)
+    (sym (judged l .tells .ensures) ∙ f .before .if2 .taken) (sym (d .draws .ensures) ∙ k)
 
 returns : tie.Need-returns
 returns c = glance-none (c .before .before .args .rest .now) (c .if1 .taken)
@@ -26,7 +31,7 @@ returns c = glance-none (c .before .before .args .rest .now) (c .if1 .taken)
 slice-aggregate-draws : tie.Need-slice-aggregate-draws
 slice-aggregate-draws c =
     let f = c .before .before in
-    sym (length-take-le (f .find .result) (f .before .before .before .before .before .before .args .rest .now) (f .find .ensures .fits))
+    sym (length-take-le (f .find .result) (source (judged (c .before))) (f .find .ensures .fits))
 
 returns-2 : tie.Need-returns-2
 returns-2 c = told (c .before) true (c .if3 .taken)
@@ -35,7 +40,7 @@ returns-3 : tie.Need-returns-3
 returns-3 c = told (c .before) false (c .if3 .left)
 
 returns-4 : tie.Need-returns-4
-returns-4 c = let t = c .before in glance-other (t .before .before .before .before .args .rest .now) (sym (t .tells .ensures) ∙ c .if2 .left)
+returns-4 c = let t = c .before in glance-other (source t) (sym (t .tells .ensures) ∙ c .if2 .left)
 
 pub glance-spec : {M : Type 1} → statement M
 glance-spec =

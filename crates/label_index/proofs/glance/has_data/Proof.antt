@@ -13,7 +13,7 @@ use Rattle.label_index.proofs.glance.has_data.Statement.{statement}
 use Rattle.label_index.proofs.glance.has_data.Tie as tie
 
 -- the data that was cut out
-cut : (d : tie.After-before-last) → d .before-last .result .now ≡ quoted (d .before .before .before .before .before .args .t .now)
+cut : (d : tie.After-before-last) → let found = d .before .before .before in d .before-last .result .now ≡ quoted (found .before .before .args .t .now)
 cut d =
     let f = d .before .before .before in
     d .before-last .ensures ∙ ap (beforeLast 34) (after-here 34 (f .before .before .args .t .now) (f .find .result) (f .find .ensures .is))

@@ -52,18 +52,21 @@ due-by d t e = ap openingDue (first-by (List ℕ) frameOf (source d) (d .before 
 moved : (d : tie.After-step Inv-loop μ-loop) (q : Answer) → d .step .result ≡ q → Moved (source d) (d .before .loop .here) q
 moved d q k = moved-by (source d) (d .before .loop .here) (d .step .result) q (d .step .ensures) k
 
--- at an element, with the length of its frame
+-- at an element, with the length of its frame, behind the step that answered it
+abbrev stepped : tie.After-frame-len Inv-loop μ-loop → tie.After-step Inv-loop μ-loop
+stepped c = c .before .before .before .before
+
 record Told (c : tie.After-frame-len Inv-loop μ-loop) : Type 0 where
-  short : length (source (c .before .before .before .before)) ≤ 16777216
-  further : c .before .before .before .before .before .loop .here .place + 1 ≤ c .before .before .next .given .0 .0 .place
-  inside : c .before .before .next .given .0 .0 .place ≤ length (source (c .before .before .before .before))
+  short : length (source (stepped c)) ≤ 16777216
+  further : stepped c .before .loop .here .place + 1 ≤ c .before .before .next .given .0 .0 .place
+  inside : c .before .before .next .given .0 .0 .place ≤ length (source (stepped c))
   small : c .frame-len .result ≤ 4294967295
-  counted : length (linesOf (frontFrames (source (c .before .before .before .before)) (c .before .before .before .before .before .loop .here)))
-      ≡ (2 * c .frame-len .result + 1) + length (linesOf (frontFrames (source (c .before .before .before .before)) (c .before .before .next .given .0 .0)))
+  counted : length (linesOf (frontFrames (source (stepped c)) (stepped c .before .loop .here)))
+      ≡ (2 * c .frame-len .result + 1) + length (linesOf (frontFrames (source (stepped c)) (c .before .before .next .given .0 .0)))
 
 told : (c : tie.After-frame-len Inv-loop μ-loop) → Told c
 told c =
-    let d = c .before .before .before .before in
+    let d = stepped c in
     let g = c .before .before .next .given in
     let e = g .0 .1 .0 in
     let m = moved d (Element (g .0 .0) e) (g .1) in
@@ -97,14 +100,14 @@ add-pend : tie.Need-add-pend Inv-loop μ-loop
 add-pend c = omega (arith, told c .small)
 
 add-pend-2 : tie.Need-add-pend-2 Inv-loop μ-loop
-add-pend-2 c = let t = told c in omega (arith, t .small, t .further, t .inside, t .short, c .before .before .before .before .before .loop .inv .3)
+add-pend-2 c = let t = told c in omega (arith, t .small, t .further, t .inside, t .short, stepped c .before .loop .inv .3)
 
 loop-less : tie.Need-loop-less Inv-loop μ-loop
 loop-less c = let t = told c in omega (arith, t .further, t .inside)
 
 loop-again : tie.Need-loop-again Inv-loop μ-loop
 loop-again c =
-    let d = c .before .before .before .before in
+    let d = stepped c in
     let l = d .before .loop in
     let g = c .before .before .next .given in
     let t = told c in

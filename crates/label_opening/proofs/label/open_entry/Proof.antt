@@ -38,9 +38,11 @@ returns c =
 returns-2 : tie.Need-returns-2
 returns-2 c =
     let p = c .before .before in
-    let m = p .before .before .before .before .before .before in
-    let g = p .before .before .before .before .st .given in
-    subst (λ (u : Due). Fills (p .open-first .last .1 .1 .1 .0) (m .before .before .before .args .out .now) u (givenOf (p .open-first .result))) (sym (due-by m (At (g .0 .0) (g .0 .1 .0)) (g .1))) (p .open-first .ensures)
+    let start = p .before .before .before .before in
+    let m = start .before .before in
+    let g = start .st .given in
+    subst (λ (u : Due). Fills (p .open-first .last .1 .1 .1 .0) (m .before .before .before .args .out .now) u (givenOf (p .open-first .result)))
+    (sym (due-by m (At (g .0 .0) (g .0 .1 .0)) (g .1))) (p .open-first .ensures)
 
 pub open-entry-spec : {M : Type 1} → statement M
 open-entry-spec = tie.close (tie.spec (λ c κs. search needs) (λ c. search needs) (λ c. search needs) slice-aggregate-open-first (λ c κs. search needs) returns (λ c. search needs) returns-2)

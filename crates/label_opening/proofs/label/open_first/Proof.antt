@@ -17,16 +17,16 @@ told d q e = let a = d .before .before .before .args in subst (Finds (a .input .
 
 returns : tie.Need-returns
 returns c =
-    let m = c .before .before .before .before in
-    let g = c .before .before .first .given in
+    let label = c .before .before in let m = label .before .before in
+    let g = label .first .given in
     let f = told m (Label (g .0 .0) (g .0 .1 .0) (g .0 .1 .1 .0)) (g .1) in
     fills-short (m .before .before .before .args .out .now) (f .0) (f .1) (c .if1 .taken)
 
 put-label-requires : tie.Need-put-label-requires
 put-label-requires c κs =
-    let m = c .before .before .before .before .before in
-    let g = c .before .before .before .first .given in
-    omega (arith, told m (Label (g .0 .0) (g .0 .1 .0) (g .0 .1 .1 .0)) (g .1) .1, c .before .if1 .left)
+    let fits = c .before in let label = fits .before .before in
+    let g = label .first .given in
+    omega (arith, told (label .before .before) (Label (g .0 .0) (g .0 .1 .0) (g .0 .1 .1 .0)) (g .1) .1, fits .if1 .left)
 
 returns-2 : tie.Need-returns-2
 returns-2 c =
@@ -36,12 +36,12 @@ returns-2 c =
 
 returns-3 : tie.Need-returns-3
 returns-3 c =
-    let p = c .before .before in
-    let m = p .before .before .before .before .before .before in
-    let g = p .before .before .before .before .first .given in
+    let p = c .before .before in let fits = p .before .before in
+    let label = fits .before .before in let m = label .before .before in
+    let g = label .first .given in
     let f = told m (Label (g .0 .0) (g .0 .1 .0) (g .0 .1 .1 .0)) (g .1) in
     let w = p .put-label .ensures in
-    fills-written (m .before .before .before .args .out .now) (f .0) (omega (arith, w .next)) (omega (arith, w .next, f .1, p .before .before .if1 .left)) (w .wrote .is)
+    fills-written (m .before .before .before .args .out .now) (f .0) (omega (arith, w .next)) (omega (arith, w .next, f .1, fits .if1 .left)) (w .wrote .is)
 
 pub open-first-spec : {M : Type 1} → statement M
 open-first-spec =

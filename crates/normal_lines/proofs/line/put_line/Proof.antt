@@ -16,21 +16,25 @@ use borrow.Author.Needs.{needs}
 use Rattle.normal_lines.proofs.line.put_line.Statement.{statement}
 use Rattle.normal_lines.proofs.line.put_line.Tie as tie
 
-size : (c : tie.Else1) → c .before .near .result ≡ length (front notLf (c .before .before .before .before .args .rest .now))
-size c = first-found (c .before .near .ensures .found (omega arith)) .is ∙ sym (index-length (c .before .before .before .before .args .rest .now))
+module _ (near : tie.Else1) where
+  abbrev s : tie.Start
+  s = near .before .before .before .before
+
+  size : near .before .near .result ≡ length (front notLf (s .args .rest .now))
+  size = first-found (near .before .near .ensures .found (omega arith)) .is ∙ sym (index-length (s .args .rest .now))
 
 -- what stays of the line
-kept : (c : tie.After-trim-ascii-end) → c .trim-ascii-end .result .now ≡ trimAscii (front notLf (c .before .before .before .before .before .before .before .args .rest .now))
+kept : (c : tie.After-trim-ascii-end) → c .trim-ascii-end .result .now ≡ trimAscii (front notLf (s (c .before .before .before) .args .rest .now))
 kept c =
     let f = c .before .before in
     c .trim-ascii-end .ensures
     ∙ ap (dropEnd isAsciiBlank) (c .before .trim-ascii-start .ensures)
-    ∙ ap trimAscii (f .first .ensures ∙ line-is (f .before .before .before .before .before .args .rest .now) (size (f .before)))
+    ∙ ap trimAscii (f .first .ensures ∙ line-is (s (f .before) .args .rest .now) (size (f .before)))
 
 put-ended-requires : tie.Need-put-ended-requires
 put-ended-requires c κs =
     let t = c .before in
-    omega (arith, t .before .before .before .before .before .before .before .pre, ap (λ (l : List ℕ). length (ended l)) (kept t))
+    omega (arith, s (t .before .before .before) .pre, ap (λ (l : List ℕ). length (ended l)) (kept t))
 
 returns-2 : tie.Need-returns-2
 returns-2 c =
@@ -38,10 +42,10 @@ returns-2 c =
     let t = p .before .before in
     let e = t .before .before .before in
     let n = e .before .near .result in
-    let s = e .before .before .before .before .args .rest .now in
+    let m = length (s e .args .rest .now) in
     record {
       put = rw (sym (kept t)) (p .put-ended .ensures);
-      size = add-one n ∙ size-with n (length s) (e .before .near .ensures .inside (omega arith)) ∙ ap (λ (k : ℕ). sizeBy k (length s)) (size e);
+      size = add-one n ∙ size-with n m (e .before .near .ensures .inside (omega arith)) ∙ ap (λ (k : ℕ). sizeBy k m) (size e);
     }
 
 pub put-line-spec : {M : Type 1} → statement M

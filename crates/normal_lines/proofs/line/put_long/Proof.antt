@@ -43,20 +43,23 @@ started-size (b ∷ s) =
 kept : (c : tie.After-trim-line-start) → trimAscii (front notLf (c .before .before .before .args .rest .now)) ≡ dropEnd isAsciiBlank (front notLf (c .trim-line-start .result .now))
 kept c = ap (dropEnd isAsciiBlank) (started-is (c .before .before .before .args .rest .now) ∙ ap (front notLf) (sym (c .trim-line-start .ensures)))
 
+abbrev trimmed : tie.After-put-pieces → tie.After-trim-line-start
+trimmed p = p .before .before
+
 abbrev entry : tie.After-put-pieces → tie.Start
-entry p = p .before .before .before .before .before
+entry p = trimmed p .before .before .before
 
 -- what stays of the line
 abbrev stays : tie.After-put-pieces → List ℕ
 stays p = trimAscii (front notLf (entry p .args .rest .now))
 
-size : (p : tie.After-put-pieces) → let s = entry p .args .rest .now in length s - length (p .before .before .trim-line-start .result .now) + p .put-pieces .result .size ≡ length (front notLf s)
+size : (p : tie.After-put-pieces) → let s = entry p .args .rest .now in length s - length (trimmed p .trim-line-start .result .now) + p .put-pieces .result .size ≡ length (front notLf s)
 size p =
-    let e = p .before .before .trim-line-start .ensures in
+    let e = trimmed p .trim-line-start .ensures in
     omega (arith, p .put-pieces .ensures .size, ap (λ (l : List ℕ). length (front notLf l)) e, ap length e, started-size (entry p .args .rest .now))
 
 put : (p : tie.After-put-pieces) → Put (p .put-pieces .last .1 .0) (entry p .args .out .now) (entry p .args .at) (stays p) (p .put-pieces .result .to)
-put p = rw (kept (p .before .before)) (p .put-pieces .ensures .put)
+put p = rw (kept (trimmed p)) (p .put-pieces .ensures .put)
 
 sub-from : tie.Need-sub-from
 sub-from c = let s = c .before .before .before .args .rest .now in omega (arith, ap length (c .trim-line-start .ensures), drop-while-le isLineBlank s)

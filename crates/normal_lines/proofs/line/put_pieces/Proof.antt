@@ -180,36 +180,34 @@ put-bytes-requires c κs =
     room (b .inv .toward) (take (j .if1 .upto - b .done) (drop (b .done) t)) (dropEnd isAsciiBlank (drop (j .if1 .upto) (front notLf t))) (l j .before .before .before .pre)
     (splits (b .inv) (j .before .before .piece .ensures) (j .before .trim-ascii-end .ensures) (came j))
 
+-- where it is known up to where bytes are put, of where they are put
+abbrev cut : tie.After-put-bytes Inv-loop μ-loop → tie.Joined1 Inv-loop μ-loop
+cut p = p .before .before .before .before
+
 -- the state behind a turn
-behind : (p : tie.After-put-bytes Inv-loop μ-loop) → let j = p .before .before .before .before in let a = l j .before .before .before .args in
+behind : (p : tie.After-put-bytes Inv-loop μ-loop) → let j = cut p in let a = l j .before .before .before .args in
     Along (a .t .now) (a .out .now) (a .at) (p .put-bytes .last .1 .0) (j .if1 .upto) (l j .loop .seen + length (pc j)) (l j .loop .to + (j .if1 .upto - l j .loop .done))
 behind p =
-    let j = p .before .before .before .before in
+    let j = cut p in
     along-next (l j .loop .inv) (j .before .before .piece .ensures) (j .before .trim-ascii-end .ensures) (came j) (p .put-bytes .ensures)
 
 sub-to : tie.Need-sub-to Inv-loop μ-loop
-sub-to c = told (c .before .before .before .before .before .before) .to-upto
+sub-to c = told (cut (c .before .before)) .to-upto
 
 add-to : tie.Need-add-to Inv-loop μ-loop
-add-to c =
-    let p = c .before .before in
-    omega (arith, behind p .toward .ends, l (p .before .before .before .before) .before .before .before .pre)
+add-to c = let p = c .before .before in omega (arith, behind p .toward .ends, l (cut p) .before .before .before .pre)
 
 add-seen : tie.Need-add-seen Inv-loop μ-loop
-add-seen c = let f = told (c .before .before .before .before .before .before) in omega (arith, f .in-line, f .in-text)
+add-seen c = let f = told (cut (c .before .before)) in omega (arith, f .in-line, f .in-text)
 
 returns : tie.Need-returns Inv-loop μ-loop
 returns c =
     let p = c .before .before .before in
-    let j = p .before .before .before .before in
-    let e = ended-here (l j .loop .inv) (j .before .before .piece .ensures) (c .if2 .taken) in
+    let e = ended-here (l (cut p) .loop .inv) (cut p .before .before .piece .ensures) (c .if2 .taken) in
     record { put = along-end (behind p) (omega (arith, e)); size = e }
 
 loop-less : tie.Need-loop-less Inv-loop μ-loop
-loop-less c =
-    let j = c .before .before .before .before .before .before .before in
-    let f = told j in
-    omega (arith, c .if2 .left, f .in-line, f .in-text)
+loop-less c = let f = told (cut (c .before .before .before)) in omega (arith, c .if2 .left, f .in-line, f .in-text)
 
 pub put-pieces-spec : {M : Type 1} → statement M
 put-pieces-spec =

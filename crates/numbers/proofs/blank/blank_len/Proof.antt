@@ -12,16 +12,18 @@ returns : tie.Need-returns
 returns c = omega (arith, size-le isBlank refl (c .before .before .args .s .now))
 
 returns-2 : tie.Need-returns-2
-returns-2 c = sym (size-plain (c .before .before .before .before .before .args .s .now) (sym (c .before .is-plain .ensures) ∙ c .if2 .taken))
+returns-2 c = let plain = c .before in sym (size-plain (plain .before .before .before .before .args .s .now) (sym (plain .is-plain .ensures) ∙ c .if2 .taken))
 
 returns-3 : tie.Need-returns-3
-returns-3 c = let s = c .before .before .before .before .before .before .before .args .s .now in size-one isBlank s (blank-first s ∙ sym (c .before .is-blank1 .ensures) ∙ c .if3 .taken)
+returns-3 c =
+    let blank = c .before in let plain = blank .before .before in let s = plain .before .before .before .before .args .s .now in
+    size-one isBlank s (blank-first s ∙ sym (blank .is-blank1 .ensures) ∙ c .if3 .taken)
 
 returns-4 : tie.Need-returns-4
 returns-4 c =
     let e = c .before .before .before in
-    let s = e .before .before .before .before .before .before .before .args .s .now in
-    size-wide isBlank s (blank-first s ∙ sym (e .before .is-blank1 .ensures) ∙ e .if3 .left) (ap isBlank (c .before .before .first .ensures)) (ap isBlank (c .before .first2 .ensures)) (c .wide-len .ensures)
+    let blank = e .before in let plain = blank .before .before in let s = plain .before .before .before .before .args .s .now in
+    size-wide isBlank s (blank-first s ∙ sym (blank .is-blank1 .ensures) ∙ e .if3 .left) (ap isBlank (c .before .before .first .ensures)) (ap isBlank (c .before .first2 .ensures)) (c .wide-len .ensures)
 
 pub blank-len-spec : {M : Type 1} → statement M
 blank-len-spec =

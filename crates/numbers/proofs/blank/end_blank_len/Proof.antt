@@ -13,16 +13,19 @@ returns : tie.Need-returns
 returns c = omega (arith, end-le (c .before .before .args .s .now))
 
 returns-2 : tie.Need-returns-2
-returns-2 c = sym (end-plain (c .before .before .before .before .before .args .s .now) (omega arith) (sym (c .before .is-plain .ensures) ∙ c .if2 .taken))
+returns-2 c = let plain = c .before in sym (end-plain (plain .before .before .before .before .args .s .now) (omega arith) (sym (plain .is-plain .ensures) ∙ c .if2 .taken))
 
 returns-3 : tie.Need-returns-3
-returns-3 c = let s = c .before .before .before .before .before .before .before .args .s .now in size-one (back isBlank) (reverse s) (blank-last s (omega arith) ∙ sym (c .before .is-blank1 .ensures) ∙ c .if3 .taken)
+returns-3 c =
+    let blank = c .before in let plain = blank .before .before in let s = plain .before .before .before .before .args .s .now in
+    size-one (back isBlank) (reverse s) (blank-last s (omega arith) ∙ sym (blank .is-blank1 .ensures) ∙ c .if3 .taken)
 
 returns-4 : tie.Need-returns-4
 returns-4 c =
     let e = c .before .before .before in
-    let s = e .before .before .before .before .before .before .before .args .s .now in
-    size-wide (back isBlank) (reverse s) (blank-last s (omega arith) ∙ sym (e .before .is-blank1 .ensures) ∙ e .if3 .left) (ap isBlank (c .before .before .last .ensures)) (ap isBlank (c .before .last2 .ensures)) (c .wide-len .ensures)
+    let blank = e .before in let plain = blank .before .before in let s = plain .before .before .before .before .args .s .now in
+    size-wide (back isBlank) (reverse s) (blank-last s (omega arith) ∙ sym (blank .is-blank1 .ensures) ∙ e .if3 .left)
+    (ap isBlank (c .before .before .last .ensures)) (ap isBlank (c .before .last2 .ensures)) (c .wide-len .ensures)
 
 pub end-blank-len-spec : {M : Type 1} → statement M
 end-blank-len-spec =

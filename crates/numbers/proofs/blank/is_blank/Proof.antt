@@ -10,10 +10,10 @@ returns : tie.Need-returns
 returns c = c .is-blank1 .ensures ∙ blank-one (c .before .before .before .before .args .w .now) (c .before .before .if1 .taken)
 
 returns-2 : tie.Need-returns-2
-returns-2 c = c .is-blank2 .ensures ∙ blank-two (c .before .before .before .before .before .before .args .w .now) (c .before .before .before .if2 .taken)
+returns-2 c = let two = c .before .before .before in c .is-blank2 .ensures ∙ blank-two (two .before .before .before .args .w .now) (two .if2 .taken)
 
 returns-3 : tie.Need-returns-3
-returns-3 c = c .is-blank3 .ensures ∙ blank-three (c .before .before .before .before .before .before .before .before .args .w .now) (c .before .before .before .before .if3 .taken)
+returns-3 c = let three = c .before .before .before .before in c .is-blank3 .ensures ∙ blank-three (three .before .before .before .before .args .w .now) (three .if3 .taken)
 
 returns-4 : tie.Need-returns-4
 returns-4 c = blank-other (c .before .before .before .before .args .w .now) (c .before .before .if1 .left) (c .before .if2 .left) (c .if3 .left)

@@ -27,8 +27,8 @@ loop-holds c = (search needs, cc (take-length (c .before .args .s .now)))
 
 loop-again : tie.Need-loop-again Inv-loop μ-loop
 loop-again c =
-    let l = c .before .before .before .before .before .before in
-    (search needs, l .loop .inv .1 ∙ back-skip isAsciiBlank (l .before .before .args .s .now) (l .loop .n) (search needs) (search needs) (sym (c .before .is-ascii-blank .ensures) ∙ c .if2 .taken))
+    let blank = c .before in let low = blank .before .before in let l = low .before .before .before in
+    (search needs, l .loop .inv .1 ∙ back-skip isAsciiBlank (l .before .before .args .s .now) (l .loop .n) (search needs) (search needs) (sym (blank .is-ascii-blank .ensures) ∙ c .if2 .taken))
 
 returns : tie.Need-returns Inv-loop μ-loop
 returns c =

@@ -21,8 +21,8 @@ abbrev μ-loop : tie.MeasureT-loop
 
 loop-again : tie.Need-loop-again Inv-loop μ-loop
 loop-again c =
-    let l = c .before .before .before .before .before .before in
-    (search needs, l .loop .inv .1 ∙ front-skip isAsciiBlank (l .before .before .args .s .now) (l .loop .i) (search needs) (sym (c .before .is-ascii-blank .ensures) ∙ c .if2 .taken))
+    let blank = c .before in let low = blank .before .before in let l = low .before .before .before in
+    (search needs, l .loop .inv .1 ∙ front-skip isAsciiBlank (l .before .before .args .s .now) (l .loop .i) (search needs) (sym (blank .is-ascii-blank .ensures) ∙ c .if2 .taken))
 
 returns : tie.Need-returns Inv-loop μ-loop
 returns c =

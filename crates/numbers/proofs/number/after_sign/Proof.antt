@@ -8,7 +8,9 @@ use Rattle.numbers.proofs.number.after_sign.Statement.{statement}
 use Rattle.numbers.proofs.number.after_sign.Tie as tie
 
 with-sign-requires : tie.Need-with-sign-requires
-with-sign-requires c κs = upto→some (digitsOf (c .before .before .before .before .before .args .s .now)) (c .before .v .given .0 .0) (sym (c .before .v .given .1) ∙ c .before .before .before .digits .ensures) .1
+with-sign-requires c κs =
+    let n = c .before in
+    upto→some (digitsOf (n .before .before .before .before .args .s .now)) (n .v .given .0 .0) (sym (n .v .given .1) ∙ n .before .before .digits .ensures) .1
 
 returns : tie.Need-returns
 returns c =

@@ -49,12 +49,12 @@ add-w c = omega (arith, within-high 48 57 (byte c) (digit c))
 
 loop-again : tie.Need-loop-again Inv-loop μ-loop
 loop-again c =
-    let l = c .before .before .before .before .before in
+    let one = c .before in let l = one .before .before .before .before in
     let s = l .before .before .before .args .s .now in
     let m = c .least .ensures in (
       search needs,
       omega (arith, m),
-      l .loop .inv .2 ∙ ap capped (value-step s (l .loop .i) (l .loop .v) (search needs) (digit (c .before))) ∙ capped-least (drop (l .loop .i + 1) s) _ (c .least .result) m,
+      l .loop .inv .2 ∙ ap capped (value-step s (l .loop .i) (l .loop .v) (search needs) (digit one)) ∙ capped-least (drop (l .loop .i + 1) s) _ (c .least .result) m,
     )
 
 returns-3 : tie.Need-returns-3 Inv-loop μ-loop

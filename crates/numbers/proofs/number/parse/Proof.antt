@@ -18,15 +18,16 @@ returns c = sym (number-none (c .before .before .args .s .now) (c .if1 .taken))
 
 returns-2 : tie.Need-returns-2
 returns-2 c =
-    let i = c .before .before in
-    let s = i .before .before .before .before .before .args .s .now in
-    c .after-sign .ensures ∙ ap (λ (l : List ℕ). signed (eqb (getD s 0 0) 45) (digitsOf l)) (rest s 1) ∙ sym (number-sign s (omega arith) (sym (i .before .is-sign .ensures) ∙ i .if2 .taken))
+    let i = c .before .before in let sign = i .before in
+    let s = sign .before .before .before .before .args .s .now in
+    c .after-sign .ensures ∙ ap (λ (l : List ℕ). signed (eqb (getD s 0 0) 45) (digitsOf l)) (rest s 1)
+    ∙ sym (number-sign s (omega arith) (sym (sign .is-sign .ensures) ∙ i .if2 .taken))
 
 returns-3 : tie.Need-returns-3
 returns-3 c =
-    let i = c .before in
-    let s = i .before .before .before .before .before .args .s .now in
-    c .after-sign2 .ensures ∙ sym (number-plain s (omega arith) (sym (i .before .is-sign .ensures) ∙ i .if2 .left))
+    let i = c .before in let sign = i .before in
+    let s = sign .before .before .before .before .args .s .now in
+    c .after-sign2 .ensures ∙ sym (number-plain s (omega arith) (sym (sign .is-sign .ensures) ∙ i .if2 .left))
 
 pub parse-spec : {M : Type 1} → statement M
 parse-spec =

@@ -21,12 +21,12 @@ returns : tie.Need-returns
 returns c = none (c .before .before .args .s .now) (c .if1 .taken)
 
 returns-2 : tie.Need-returns-2
-returns-2 c = c .is-mark .ensures ∙ alone-one (c .before .before .before .before .before .args .s .now) (c .before .before .if2 .taken)
+returns-2 c = let one = c .before .before in c .is-mark .ensures ∙ alone-one (one .before .before .before .args .s .now) (one .if2 .taken)
 
 returns-3 : tie.Need-returns-3
 returns-3 c =
-    let s = c .before .before .before .before .before .before .args .s .now in
-    ap (λ (x : Bool). x && eqb (getD s 1 0) 44) (c .before .is-mark2 .ensures) ∙ alone-more s (omega arith)
+    let mark = c .before in let more = mark .before .before in let s = more .before .before .before .args .s .now in
+    ap (λ (x : Bool). x && eqb (getD s 1 0) 44) (mark .is-mark2 .ensures) ∙ alone-more s (omega arith)
 
 pub is-alone-spec : {M : Type 1} → statement M
 is-alone-spec =

@@ -25,15 +25,15 @@ returns c = let a = c .before .before .before .before .args in alone-exactly (a 
 returns-2 : tie.Need-returns-2
 unfolding exactlyAt exactly typeAt
 returns-2 c =
-    let t = c .before .before .type-at in
-    let b = c .before .before .before .before .before .before .args .b in
+    let type = c .before .before in let t = type .type-at in
+    let b = type .before .before .before .before .args .b in
     same-one (t .result .now) b (c .before .if2 .taken) ∙ ap (λ (l : List ℕ). same l (b ∷ [])) (t .ensures)
 
 returns-3 : tie.Need-returns-3
 unfolding exactlyAt exactly typeAt
 returns-3 c =
-    let t = c .before .type-at in
-    let b = c .before .before .before .before .before .args .b in
+    let type = c .before in let t = type .type-at in
+    let b = type .before .before .before .before .args .b in
     same-other (t .result .now) b (c .if2 .left) ∙ ap (λ (l : List ℕ). same l (b ∷ [])) (t .ensures)
 
 pub is-field-spec : {M : Type 1} → statement M

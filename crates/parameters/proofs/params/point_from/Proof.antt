@@ -8,9 +8,9 @@ use Rattle.parameters.proofs.params.point_from.Tie as tie
 
 returns : tie.Need-returns
 returns c =
-    let x = c .before .before .before .number-from in
-    let y = c .before .before .number-from2 in
-    let s = c .before .before .before .before .before .args in
+    let second = c .before .before in let y = second .number-from2 in
+    let first = second .before in let x = first .number-from in
+    let s = first .before .before .args in
     rw (back32 (x .result .value) (c .before .struct-told .given .0 .1), back32 (y .result .value) (c .struct-told2 .given .0 .1))
     (point-is (s .s .now) (s .at) (x .result) (y .result) (x .ensures) (y .ensures))
 

@@ -17,7 +17,7 @@ across d =
     simp (toZ-ofZ (s .fits .x), back32 (s .args .reference .x) (d .before .struct-told .given .0 .1)) at (d .checked-add .ensures)
 
 abbrev entry : tie.After-known-told → tie.Start
-entry d = d .before .before .before .before .before
+entry d = let sum = d .before .before .before in sum .before .before
 
 known : (d : tie.After-known-told) → let a = entry d .args in checked (a .x +ℤ a .reference .x) ≡ Fits (d .before .across .given .0 .0)
 known d = sym (across (d .before .before .before)) ∙ d .before .across .given .1
@@ -38,9 +38,9 @@ returns-2 c = simp (known (c .before .before .before .before), sym (down (c .bef
 returns-3 : tie.Need-returns-3
 unfolding placed
 returns-3 c =
-    let a = c .before .before .before .before .before in
+    let sum = c .before .before .before in let a = sum .before .before in
     rw (back32 (a .before .across .given .0 .0) (a .known-told .given .0 .1), back32 (c .before .down .given .0 .0) (c .known-told2 .given .0 .1))
-    (simp (known a, sym (down (c .before .before .before)) ∙ c .before .down .given .1))
+    (simp (known a, sym (down sum) ∙ c .before .down .given .1))
 
 pub place-spec : {M : Type 1} → statement M
 place-spec =

@@ -22,8 +22,11 @@ Inv-loop rules s t₀ k₀ t k = (k ≤ length rules) × (length t ≤ length s)
 abbrev μ-loop : tie.MeasureT-loop
 μ-loop rules s t₀ k₀ t k = length rules - k
 
+abbrev found : tie.After-ruled Inv-loop μ-loop → tie.After-find Inv-loop μ-loop
+found d = d .before .before .before
+
 abbrev at-loop : tie.After-ruled Inv-loop μ-loop → tie.At-loop Inv-loop μ-loop
-at-loop d = d .before .before .before .before .before
+at-loop d = found d .before .before
 
 abbrev rules-of : tie.After-ruled Inv-loop μ-loop → List ℕ
 rules-of d = at-loop d .before .before .before .args .rules .now
@@ -31,8 +34,8 @@ rules-of d = at-loop d .before .before .before .args .rules .now
 abbrev text-of : tie.After-ruled Inv-loop μ-loop → List ℕ
 text-of d = at-loop d .loop .t .now
 
-comma : (d : tie.After-ruled Inv-loop μ-loop) → d .before .before .before .find .result ≡ indexOf 44 (text-of d)
-comma d = d .before .before .before .find .ensures .is
+comma : (d : tie.After-ruled Inv-loop μ-loop) → found d .find .result ≡ indexOf 44 (text-of d)
+comma d = found d .find .ensures .is
 
 loop-holds : tie.Need-loop-holds Inv-loop μ-loop
 loop-holds c = (search needs, search needs, refl)
@@ -67,7 +70,7 @@ line-size-requires c κs = search needs
 inside : (c : tie.After-line-size Inv-loop μ-loop) → c .line-size .result ≤ length (text-of (c .before .before .before))
 inside c =
     let d = c .before .before .before in
-    rw (c .line-size .ensures) (size-le (d .before .before .before .find .result) (length (text-of d)) (d .before .before .before .find .ensures .fits))
+    rw (c .line-size .ensures) (size-le (found d .find .result) (length (text-of d)) (found d .find .ensures .fits))
 
 sub-t : tie.Need-sub-t Inv-loop μ-loop
 sub-t c = inside c
@@ -90,8 +93,12 @@ loop-again c =
     let l = at-loop d .loop in
     let t = text-of d in
     let m = c .before .line-size .result in
-    let e = rest t m in
-    (search needs, (rw (e, length-drop) (omega (arith, l .inv .1))), l .inv .2 ∙ rules-fine (rules-of d) t (l .k) _ (d .before .before .before .before .loop-test .taken) (comma d) (sym (c .before .before .enum-told .given .1) ∙ d .ruled .ensures) ∙ ap (rulesFrom (l .k + 1) (drop (l .k + 1) (rules-of d))) (sym (e ∙ after-size t _ m (comma d) (c .before .line-size .ensures))))
+    let e = rest t m in (
+      search needs,
+      (rw (e, length-drop) (omega (arith, l .inv .1))),
+      l .inv .2 ∙ rules-fine (rules-of d) t (l .k) _ (found d .before .loop-test .taken) (comma d) (sym (c .before .before .enum-told .given .1) ∙ d .ruled .ensures)
+          ∙ ap (rulesFrom (l .k + 1) (drop (l .k + 1) (rules-of d))) (sym (e ∙ after-size t _ m (comma d) (c .before .line-size .ensures))),
+    )
 
 enum-known-j : tie.Need-enum-known-j Inv-loop μ-loop
 enum-known-j c = search needs
@@ -100,7 +107,8 @@ returns : tie.Need-returns Inv-loop μ-loop
 returns c =
     let d = c .before .before .before in
     let g = c .before .j .given in
-    sym (at-loop d .loop .inv .2 ∙ rules-to (rules-of d) (text-of d) (at-loop d .loop .k) _ (d .before .before .before .before .loop-test .taken) (comma d) (g .0 .0) (g .0 .1 .0) (sym (g .1) ∙ d .ruled .ensures))
+    let l = at-loop d .loop in
+    sym (l .inv .2 ∙ rules-to (rules-of d) (text-of d) (l .k) _ (found d .before .loop-test .taken) (comma d) (g .0 .0) (g .0 .1 .0) (sym (g .1) ∙ d .ruled .ensures))
 
 returns-2 : tie.Need-returns-2 Inv-loop μ-loop
 returns-2 c = let l = c .before .loop in sym (l .inv .2 ∙ rules-end (c .before .before .before .before .args .rules .now) (l .t .now) (l .k) (c .loop-test .left))

@@ -15,7 +15,9 @@ is : (d : tie.After-gw-span) (o : Graphic) → d .gw-span .result ≡ o → gwSp
 is d o e = sym (d .gw-span .ensures) ∙ e
 
 slice-aggregate-line-objection : tie.Need-slice-aggregate-line-objection
-slice-aggregate-line-objection c = let f = c .before in sym (length-take-le (f .find .result) (f .before .before .before .before .before .args .rest .now) (f .find .ensures .fits))
+slice-aggregate-line-objection c =
+    let f = c .before in let spanned = f .before .before .before in
+    sym (length-take-le (f .find .result) (spanned .before .before .args .rest .now) (f .find .ensures .fits))
 
 returns : tie.Need-returns
 unfolding objection unitSize
@@ -38,7 +40,9 @@ returns-3 c =
     let b = c .before in
     let t = b .before .before in
     let o = simp (b .before .tail-two .ensures, t .trim-line-start .ensures) at (b .by-rules .ensures) in
-    simp (is (t .before .before .before .before .before) _ (t .before .before .before .g .given .1)) (c .sized2 .ensures ∙ ap (λ (q : Objection). lookedAs q (t .before .before .before .g .given .0 .0 .«data_end»)) o)
+    let graphic = t .before .before .before in
+    let g = graphic .g .given in
+    simp (is (graphic .before .before) _ (g .1)) (c .sized2 .ensures ∙ ap (λ (q : Objection). lookedAs q (g .0 .0 .«data_end»)) o)
 
 pub look-spec : {M : Type 1} → statement M
 look-spec =

@@ -27,7 +27,7 @@ returns : tie.Need-returns
 returns c = fills-denied (c .before .before .before .before .args .out .now) (own (c .before) 17 (omega arith) (c .if1 .taken))
 
 returns-2 : tie.Need-returns-2
-returns-2 c = fills-denied (c .before .before .before .before .before .args .out .now) (own (c .before .before) 18 (omega arith) (c .if2 .taken))
+returns-2 c = let checked = c .before .before in fills-denied (checked .before .before .before .args .out .now) (own checked 18 (omega arith) (c .if2 .taken))
 
 not-own : (d : tie.After-check) → (d .check .result .number ≡ 17 → ⊥) → (d .check .result .number ≡ 18 → ⊥) → Own (checkedOf (input-of d) .number) → ⊥
 not-own d a b (inl e) = a (ap (λ (c : Checked). c .number) (d .check .ensures) ∙ e)

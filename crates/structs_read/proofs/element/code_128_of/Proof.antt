@@ -6,9 +6,13 @@ use Rattle.structs_read.proofs.element.code_128_of.Tie as tie
 
 returns : tie.Need-returns
 returns c =
-    let a = c .before .before .before .before .before .before .before .before in
-    let m = rw (back32 (a .args .x .mode) (a .good .0 .1 .1 .1 .1 .1 .1 .1 .1 .1 .1 .1 .1 .1 .1 .1 .1 .1 .1 .1 .1 .1 .1 .0 .1)) at (c .before .before .before .mode-of .ensures) in
-    rw (c .before .before .before .before .before .before .before .at .ensures, c .before .before .before .before .before .before .span .ensures, c .before .before .before .before .before .orientation-of .ensures, m, back32 (a .args .x .height) (a .good .0 .1 .1 .1 .1 .1 .1 .1 .1 .1 .1 .1 .1 .1 .1 .0 .1), back32 (a .args .x .width) (a .good .0 .1 .1 .1 .1 .1 .1 .1 .1 .1 .1 .1 .1 .1 .0 .1))
+    let mode = c .before .before .before in
+    let turned = mode .before .before in
+    let span = turned .before in
+    let a = span .before .before in
+    let g = a .good .0 .1 .1 .1 .1 .1 .1 .1 .1 .1 .1 .1 .1 .1 in
+    let m = rw (back32 (a .args .x .mode) (g .1 .1 .1 .1 .1 .1 .1 .1 .1 .0 .1)) at (mode .mode-of .ensures) in
+    rw (span .before .at .ensures, span .span .ensures, turned .orientation-of .ensures, m, back32 (a .args .x .height) (g .1 .0 .1), back32 (a .args .x .width) (g .0 .1))
 
 pub code-128-of-spec : {M : Type 1} → statement M
 code-128-of-spec =

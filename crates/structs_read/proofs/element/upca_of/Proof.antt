@@ -6,8 +6,11 @@ use Rattle.structs_read.proofs.element.upca_of.Tie as tie
 
 returns : tie.Need-returns
 returns c =
-    let a = c .before .before .before .before .before .before in
-    rw (c .before .before .before .before .before .at .ensures, c .before .before .before .before .span .ensures, c .before .before .before .orientation-of .ensures, back32 (a .args .x .height) (a .good .0 .1 .1 .1 .1 .1 .1 .1 .1 .1 .1 .1 .1 .1 .1 .0 .1), back32 (a .args .x .width) (a .good .0 .1 .1 .1 .1 .1 .1 .1 .1 .1 .1 .1 .1 .1 .0 .1))
+    let turned = c .before .before .before in
+    let span = turned .before in
+    let a = span .before .before in
+    let g = a .good .0 .1 .1 .1 .1 .1 .1 .1 .1 .1 .1 .1 .1 .1 in
+    rw (span .before .at .ensures, span .span .ensures, turned .orientation-of .ensures, back32 (a .args .x .height) (g .1 .0 .1), back32 (a .args .x .width) (g .0 .1))
 
 pub upca-of-spec : {M : Type 1} → statement M
 upca-of-spec = tie.close (tie.spec (λ c κs. search needs) (λ c κs. search needs) (λ c κs. search needs) returns)

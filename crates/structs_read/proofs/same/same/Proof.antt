@@ -6,17 +6,21 @@ use Rattle.structs_read.proofs.same.same.Tie as tie
 
 returns : tie.Need-returns
 unfolding sameElement
-returns c = rw (c .before .before .before .before .before .before .same-flags .ensures, c .before .before .before .before .before .same-places .ensures, c .before .before .before .before .same-counts .ensures, c .before .before .before .same-modules .ensures, c .before .before .same-scales .ensures, c .before .same-sizes .ensures, c .same-data .ensures)
+returns c =
+    let modules = c .before .before .before in
+    let places = modules .before .before in
+    rw (
+      places .before .same-flags .ensures,
+      places .same-places .ensures,
+      modules .before .same-counts .ensures,
+      modules .same-modules .ensures,
+      c .before .before .same-scales .ensures,
+      c .before .same-sizes .ensures,
+      c .same-data .ensures,
+    )
 
 pub same-spec : {M : Type 1} → statement M
 same-spec =
     tie.close
-    (tie.spec
-    (λ c κs. search needs)
-    (λ c κs. search needs)
-    (λ c κs. search needs)
-    (λ c κs. search needs)
-    (λ c κs. search needs)
-    (λ c κs. search needs)
-    (λ c κs. search needs)
-    returns)
+    (tie.spec (λ c κs. search needs) (λ c κs. search needs) (λ c κs. search needs) (λ c κs. search needs)
+    (λ c κs. search needs) (λ c κs. search needs) (λ c κs. search needs) returns)

@@ -11,19 +11,22 @@ use Rattle.texts.proofs.epl_text.text_element.Statement.{statement}
 use Rattle.texts.proofs.epl_text.text_element.Tie as tie
 
 abbrev start : tie.After-place → tie.Start
-start d = d .before .before .before .before .before
+start d = let x = d .before .before in x .before .before .before
 
 stands : (d : tie.After-place) → d .place .result ≡ placed (start d .args .f .at .x) (start d .args .f .at .y) (start d .args .reference)
 stands d =
     let p = start d .args .f .at in
     simp (back32 (p .x) (d .before .before .struct-told .given .0 .1), back32 (p .y) (d .before .struct-told2 .given .1 .0 .1)) at (d .place .ensures)
 
-abbrev at-place : tie.After-font-info → tie.After-place
-at-place d = d .before .before .before .before .before .before .before .before
-
 -- the position that was known when the font was asked for
-known : (d : tie.After-font-info) → let s = start (at-place d) .args in placed (s .f .at .x) (s .f .at .y) (s .reference) ≡ At (d .before .before .before .before .before .before .position .given .0 .0)
-known d = sym (stands (at-place d)) ∙ d .before .before .before .before .before .before .position .given .1
+abbrev position-of : tie.After-font-info → tie.After-position
+position-of d = let font = d .before .before .before .before in font .before .before
+
+abbrev at-place : tie.After-font-info → tie.After-place
+at-place d = position-of d .before .before
+
+known : (d : tie.After-font-info) → let s = start (at-place d) .args in placed (s .f .at .x) (s .f .at .y) (s .reference) ≡ At (position-of d .position .given .0 .0)
+known d = sym (stands (at-place d)) ∙ position-of d .position .given .1
 
 looks : (d : tie.After-font-info) → let f = start (at-place d) .args .f in d .font-info .result ≡ fontOf (f .scale .font) (f .scale .horizontal) (f .scale .vertical) (f .rotation)
 looks d =

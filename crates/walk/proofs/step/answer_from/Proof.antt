@@ -28,10 +28,10 @@ abbrev μ-loop : tie.MeasureT-loop
 
 -- the input and the state that were given, where a unit was read
 abbrev source : tie.After-read-unit Inv-loop μ-loop → List ℕ
-source d = d .before .before .before .before .before .args .input .now
+source d = let round = d .before .before in round .before .before .before .args .input .now
 
 abbrev from : tie.After-read-unit Inv-loop μ-loop → WalkState
-from d = d .before .before .before .before .before .args .st
+from d = let round = d .before .before in round .before .before .before .args .st
 
 -- the whole answer, by the reading that the loop matched
 taken : (d : tie.After-read-unit Inv-loop μ-loop) (q : Reading) → d .read-unit .result ≡ q

@@ -8,17 +8,29 @@ use Rattle.where_element.proofs.element.is_on_by.Tie as tie
 
 returns : tie.Need-returns
 returns c =
-    let p = c .before .before .before .before .before .before .before .before .args .p in
-    let x = c .before .before .before .before .before .before .f .given .0 .0 in
-    rw (c .before .before .before .before .before .before .f .given .1)
-    (simp (back32 (p .x) (c .before .before .before .before .struct-told .given .0 .1), back32 (p .y) (c .before .before .before .struct-told2 .given .1 .0 .1), back32 (x .width) (c .before .before .struct-told3 .given .0 .1), back32 (x .height) (c .before .struct-told4 .given .1 .0 .1)) at (c .touches .ensures))
+    let height = c .before in let width = height .before in let y = width .before in let x = y .before in
+    let box = x .before .before in let p = box .before .before .args .p in
+    let e = box .f .given .0 .0 in
+    rw (box .f .given .1)
+    (simp (
+      back32 (p .x) (x .struct-told .given .0 .1),
+      back32 (p .y) (y .struct-told2 .given .1 .0 .1),
+      back32 (e .width) (width .struct-told3 .given .0 .1),
+      back32 (e .height) (height .struct-told4 .given .1 .0 .1),
+    ) at (c .touches .ensures))
 
 returns-2 : tie.Need-returns-2
 returns-2 c =
-    let p = c .before .before .before .before .before .before .before .before .args .p in
-    let x = c .before .before .before .before .before .before .f2 .given .0 .0 in
-    rw (c .before .before .before .before .before .before .f2 .given .1)
-    (simp (back32 (p .x) (c .before .before .before .before .struct-told5 .given .0 .1), back32 (p .y) (c .before .before .before .struct-told6 .given .1 .0 .1), back32 (x .width) (c .before .before .struct-told7 .given .0 .1), back32 (x .height) (c .before .struct-told8 .given .1 .0 .1)) at (c .touches2 .ensures))
+    let height = c .before in let width = height .before in let y = width .before in let x = y .before in
+    let diagonal = x .before .before in let p = diagonal .before .before .args .p in
+    let e = diagonal .f2 .given .0 .0 in
+    rw (diagonal .f2 .given .1)
+    (simp (
+      back32 (p .x) (x .struct-told5 .given .0 .1),
+      back32 (p .y) (y .struct-told6 .given .1 .0 .1),
+      back32 (e .width) (width .struct-told7 .given .0 .1),
+      back32 (e .height) (height .struct-told8 .given .1 .0 .1),
+    ) at (c .touches2 .ensures))
 
 returns-3 : tie.Need-returns-3
 returns-3 c = off-tag (c .before .args .r) (c .before .args .p) (c .before .args .f) (c .match .keys3)

@@ -9,13 +9,14 @@ use Rattle.where_element.proofs.place.distance.Tie as tie
 
 returns : tie.Need-returns
 returns c =
-    let s = c .before .before .before .before .before .before .before in
-    let p = s .args .p in
-    let q = s .args .q in
-    let across : c .before .before .before .before .apart .result ≡ apart (p .x) (q .x) =
-    simp (back32 (p .x) (c .before .before .before .before .before .before .struct-told .given .0 .1), back32 (q .x) (c .before .before .before .before .before .struct-told2 .given .0 .1)) at (c .before .before .before .before .apart .ensures) in
-    let down : c .before .apart2 .result ≡ apart (p .y) (q .y) =
-    simp (back32 (p .y) (c .before .before .before .struct-told3 .given .1 .0 .1), back32 (q .y) (c .before .before .struct-told4 .given .1 .0 .1)) at (c .before .apart2 .ensures) in
+    let high = c .before in let qy = high .before in let py = qy .before in
+    let wide = py .before in let qx = wide .before in let px = qx .before in
+    let p = px .before .args .p in
+    let q = px .before .args .q in
+    let across : wide .apart .result ≡ apart (p .x) (q .x) =
+    simp (back32 (p .x) (px .struct-told .given .0 .1), back32 (q .x) (qx .struct-told2 .given .0 .1)) at (wide .apart .ensures) in
+    let down : high .apart2 .result ≡ apart (p .y) (q .y) =
+    simp (back32 (p .y) (py .struct-told3 .given .1 .0 .1), back32 (q .y) (qy .struct-told4 .given .1 .0 .1)) at (high .apart2 .ensures) in
     c .larger .ensures ∙ rw (across, down)
 
 pub distance-spec : {M : Type 1} → statement M

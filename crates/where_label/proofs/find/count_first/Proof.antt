@@ -56,19 +56,26 @@ loop-holds c = (refl, refl, omega arith, omega arith, c .before .pre)
 
 count-if-requires : tie.Need-count-if-requires Inv-loop μ-loop
 count-if-requires c κs =
-    let g = c .before .before .next .given in
-    let m = moved (c .before .before .before .before) (Element (g .0 .0) (g .0 .1 .0)) (g .1) in
-    omega (arith, m .0 .short, m .1, m .2, c .before .before .before .before .before .loop .inv .3)
+    let matched = c .before .before in
+    let d = matched .before .before in
+    let g = matched .next .given in
+    let m = moved d (Element (g .0 .0) (g .0 .1 .0)) (g .1) in
+    omega (arith, m .0 .short, m .1, m .2, d .before .loop .inv .3)
 
 loop-less : tie.Need-loop-less Inv-loop μ-loop
-loop-less c = let g = c .before .before .before .next .given in let m = moved (c .before .before .before .before .before) (Element (g .0 .0) (g .0 .1 .0)) (g .1) in omega (arith, m .1, m .2)
+loop-less c =
+    let matched = c .before .before .before in
+    let g = matched .next .given in
+    let m = moved (matched .before .before) (Element (g .0 .0) (g .0 .1 .0)) (g .1) in
+    omega (arith, m .1, m .2)
 
 loop-again : tie.Need-loop-again Inv-loop μ-loop
 loop-again c =
-    let d = c .before .before .before .before .before in
+    let matched = c .before .before .before in
+    let d = matched .before .before in
     let l = d .before .loop in
     let a = d .before .before .before .args in
-    let g = c .before .before .before .next .given in
+    let g = matched .next .given in
     let e = g .0 .1 .0 in
     let q = Element (g .0 .0) e in
     let m = moved d q (g .1) in
@@ -111,22 +118,6 @@ returns-3 c =
 pub count-first-spec : {M : Type 1} → statement M
 count-first-spec =
     tie.close
-    (tie.spec
-    Inv-loop
-    μ-loop
-    loop-holds
-    (λ c κs. search needs)
-    (λ c. search needs)
-    (λ c κs. search needs)
-    count-if-requires
-    loop-less
-    loop-again
-    (λ c. search needs)
-    loop-less-2
-    loop-again-2
-    (λ c. search needs)
-    returns
-    (λ c. search needs)
-    returns-2
-    (λ c. search needs)
-    returns-3)
+    (tie.spec Inv-loop μ-loop loop-holds (λ c κs. search needs) (λ c. search needs) (λ c κs. search needs) count-if-requires
+    loop-less loop-again (λ c. search needs) loop-less-2 loop-again-2 (λ c. search needs) returns (λ c. search needs)
+    returns-2 (λ c. search needs) returns-3)

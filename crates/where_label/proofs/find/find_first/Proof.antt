@@ -17,15 +17,17 @@ told d q e = let a = d .before .before .before .args in subst (Counts (a .input 
 
 returns : tie.Need-returns
 returns c =
-    let m = c .before .before .before .before in
-    let g = c .before .before .first .given in
+    let label = c .before .before in
+    let m = label .before .before in
+    let g = label .first .given in
     let f = told m (Label (g .0 .0) (g .0 .1 .0)) (g .1) in
     fills-short (m .before .before .before .args .list .now) (f .0) (f .1) (c .if1 .taken)
 
 put-found-requires : tie.Need-put-found-requires
 put-found-requires c κs =
-    let m = c .before .before .before .before .before in
-    let g = c .before .before .before .first .given in
+    let label = c .before .before .before in
+    let m = label .before .before in
+    let g = label .first .given in
     let f = told m (Label (g .0 .0) (g .0 .1 .0)) (g .1) in
     (f .2, omega (arith, f .1, c .before .if1 .left))
 
@@ -38,21 +40,16 @@ returns-2 c =
 returns-3 : tie.Need-returns-3
 returns-3 c =
     let p = c .before .before in
-    let m = p .before .before .before .before .before .before in
-    let g = p .before .before .before .before .first .given in
+    let fits = p .before .before in
+    let label = fits .before .before in
+    let m = label .before .before in
+    let g = label .first .given in
     let f = told m (Label (g .0 .0) (g .0 .1 .0)) (g .1) in
     let w = p .put-found .ensures in
-    fills-written (m .before .before .before .args .list .now) (f .0) (omega (arith, w .next)) (omega (arith, w .next, f .1, p .before .before .if1 .left)) (w .wrote .is)
+    fills-written (m .before .before .before .args .list .now) (f .0) (omega (arith, w .next)) (omega (arith, w .next, f .1, fits .if1 .left)) (w .wrote .is)
 
 pub find-first-spec : {M : Type 1} → statement M
 find-first-spec =
     tie.close
-    (tie.spec
-    (λ c κs. search needs)
-    (λ c. search needs)
-    (λ c. search needs)
-    returns
-    put-found-requires
-    returns-2
-    (λ c. search needs)
-    returns-3)
+    (tie.spec (λ c κs. search needs) (λ c. search needs) (λ c. search needs) returns put-found-requires returns-2
+    (λ c. search needs) returns-3)

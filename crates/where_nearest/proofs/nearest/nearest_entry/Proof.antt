@@ -40,8 +40,9 @@ returns c = let g = c .before .k .given in sym (due-by (c .before .before .befor
 
 returns-2 : tie.Need-returns-2
 returns-2 c =
-    let m = c .before .before .before .before .before in
-    let g = c .before .before .before .st .given in
+    let started = c .before .before .before in
+    let m = started .before .before in
+    let g = started .st .given in
     c .nearest-first .ensures ∙ sym (due-by m (At (g .0 .0) (g .0 .1 .0)) (g .1))
 
 pub nearest-entry-spec : {M : Type 1} → statement M

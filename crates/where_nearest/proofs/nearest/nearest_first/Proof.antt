@@ -62,14 +62,19 @@ better-requires : tie.Need-better-requires Inv-loop μ-loop
 better-requires c κs = search needs
 
 loop-less : tie.Need-loop-less Inv-loop μ-loop
-loop-less c = let g = c .before .before .before .next .given in let m = moved (c .before .before .before .before .before) (Element (g .0 .0) (g .0 .1 .0)) (g .1) in omega (arith, m .1, m .2)
+loop-less c =
+    let matched = c .before .before .before in
+    let g = matched .next .given in
+    let m = moved (matched .before .before) (Element (g .0 .0) (g .0 .1 .0)) (g .1) in
+    omega (arith, m .1, m .2)
 
 loop-again : tie.Need-loop-again Inv-loop μ-loop
 loop-again c =
-    let d = c .before .before .before .before .before in
+    let matched = c .before .before .before in
+    let d = matched .before .before in
     let l = d .before .loop in
     let q = d .before .before .before .args .q in
-    let g = c .before .before .before .next .given in
+    let g = matched .next .given in
     let e = g .0 .1 .0 in
     let a = Element (g .0 .0) e in
     let n = l .here .pending in
@@ -118,22 +123,6 @@ returns-3 c =
 pub nearest-first-spec : {M : Type 1} → statement M
 nearest-first-spec =
     tie.close
-    (tie.spec
-    Inv-loop
-    μ-loop
-    loop-holds
-    (λ c κs. search needs)
-    (λ c. search needs)
-    (λ c κs. search needs)
-    better-requires
-    loop-less
-    loop-again
-    (λ c. search needs)
-    loop-less-2
-    loop-again-2
-    (λ c. search needs)
-    returns
-    (λ c. search needs)
-    returns-2
-    (λ c. search needs)
-    returns-3)
+    (tie.spec Inv-loop μ-loop loop-holds (λ c κs. search needs) (λ c. search needs) (λ c κs. search needs) better-requires
+    loop-less loop-again (λ c. search needs) loop-less-2 loop-again-2 (λ c. search needs) returns (λ c. search needs)
+    returns-2 (λ c. search needs) returns-3)

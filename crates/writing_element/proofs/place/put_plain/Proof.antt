@@ -13,13 +13,15 @@ use Rattle.writing_element.proofs.place.put_plain.Tie as tie
 
 returns : tie.Need-returns
 returns c =
-    let a = c .before .before .before .before .before .before .before .before .before .before in
-    let b = sym (c .before .before .before .before .before .before .before .is-element .ensures) ∙ c .before .before .before .before .before .before .if1 .taken in
-    let e = c .before .before .before .before .element-of .ensures in
-    let f = c .before .before .before .struct-of .ensures ∙ ap flatElement e in
+    let put = c .before .before in
+    let flat = put .before in
+    let element = flat .before in
+    let good = element .before .before in
+    let a = good .before .before .before .before .args in
+    let f = flat .struct-of .ensures ∙ ap flatElement (element .element-of .ensures) in
     puts-as
-    (ap textOf (plain-good (now (a .args .input)) (a .args .x) b ∙ sym (flat-due (now (a .args .input)) (elementOf (a .args .x)))))
-    (rw f at (c .before .before .put-flat .ensures))
+    (ap textOf (plain-good (now (a .input)) (a .x) (sym (good .before .is-element .ensures) ∙ good .if1 .taken) ∙ sym (flat-due (now (a .input)) (elementOf (a .x)))))
+    (rw f at (put .put-flat .ensures))
 
 returns-2 : tie.Need-returns-2
 returns-2 c =

@@ -14,48 +14,51 @@ use borrow.Author.Needs.{needs}
 use Rattle.writing_element.proofs.place.put_there.Statement.{statement}
 use Rattle.writing_element.proofs.place.put_there.Tie as tie
 
+module _ (n : tie.After-command-len) where
+  abbrev a : tie.Start
+  a = n .before .before .before .before
+
+  abbrev text : List ℕ
+  text = fill (a .args .e) (now (a .args .t)) (template (whichAt (a .args .e)))
+
+  long : n .command-len .result ≡ length text
+  long = n .command-len .ensures .is (now (a .args .t)) refl ∙ ap (λ (w : ℕ). length (fill (a .args .e) (now (a .args .t)) (template w))) (n .before .which-of .ensures)
+
 put-command-requires : tie.Need-put-command-requires
 put-command-requires c κs =
-    let a = c .before .before .before .before .before .before .before in
-    let r = c .before .before .is-room .result in
+    let fits = c .before in
+    let n = fits .before .before in
     omega (
       arith,
-      c .before .before .before .command-len .ensures .is (now (a .args .t)) refl,
-      room-ends (a .args .writing) (a .args .at) (c .before .before .before .command-len .result) (length (a .args .out .now)) (sym (c .before .before .is-room .ensures) ∙ c .before .if1 .taken),
+      n .command-len .ensures .is (now (a n .args .t)) refl,
+      room-ends (a n .args .writing) (a n .args .at) (n .command-len .result) (length (a n .args .out .now)) (sym (fits .before .is-room .ensures) ∙ fits .if1 .taken),
     )
 
 returns : tie.Need-returns
 returns c =
-    let a = c .before .before .before .before .before .before .before .before .before .before in
-    let e = c .before .before .before .before .before .before .before .which-of .ensures in
-    let t : List ℕ = fill (a .args .e) (now (a .args .t)) (template (whichAt (a .args .e))) in
-    let n : _ ≡ length t = c .before .before .before .before .before .before .command-len .ensures .is (now (a .args .t)) refl ∙ ap (λ (w : ℕ). length (fill (a .args .e) (now (a .args .t)) (template w))) e in
+    let put = c .before .before in
+    let fits = put .before .before in
+    let n = fits .before .before in
+    let s = a n .args in
     record {
-      len = n;
-      small = c .before .before .before .before .before .before .command-len .ensures .small;
-      buffer = put-as (ap (λ (w : ℕ). fill (a .args .e) (now (a .args .t)) (template w)) (sym e)) (c .before .before .put-command .ensures) .wrote .is
-          ∙ sym (placed-in (a .args .writing) (a .args .at) t (a .args .out .now) n (sym (c .before .before .before .before .before .is-room .ensures) ∙ c .before .before .before .before .if1 .taken));
+      len = long n;
+      small = n .command-len .ensures .small;
+      buffer = put-as (ap (λ (w : ℕ). fill (s .e) (now (s .t)) (template w)) (sym (n .before .which-of .ensures))) (put .put-command .ensures) .wrote .is
+          ∙ sym (placed-in (s .writing) (s .at) (text n) (s .out .now) (long n) (sym (fits .before .is-room .ensures) ∙ fits .if1 .taken));
     }
 
 returns-2 : tie.Need-returns-2
 returns-2 c =
-    let a = c .before .before .before .before .before .before in
-    let t : List ℕ = fill (a .args .e) (now (a .args .t)) (template (whichAt (a .args .e))) in
-    let n : _ ≡ length t = c .before .before .command-len .ensures .is (now (a .args .t)) refl ∙ ap (λ (w : ℕ). length (fill (a .args .e) (now (a .args .t)) (template w))) (c .before .before .before .which-of .ensures) in
+    let n = c .before .before in
+    let s = a n .args in
     record {
-      len = n;
-      small = c .before .before .command-len .ensures .small;
-      buffer = sym (placed-out (a .args .writing) (a .args .at) t (a .args .out .now) n (sym (c .before .is-room .ensures) ∙ c .if1 .left));
+      len = long n;
+      small = n .command-len .ensures .small;
+      buffer = sym (placed-out (s .writing) (s .at) (text n) (s .out .now) (long n) (sym (c .before .is-room .ensures) ∙ c .if1 .left));
     }
 
 pub put-there-spec : {M : Type 1} → statement M
 put-there-spec =
     tie.close
-    (tie.spec
-    (λ c κs. search needs)
-    (λ c κs. search needs)
-    (λ c κs. search needs)
-    put-command-requires
-    (λ c. search needs)
-    returns
-    returns-2)
+    (tie.spec (λ c κs. search needs) (λ c κs. search needs) (λ c κs. search needs) put-command-requires (λ c. search needs)
+    returns returns-2)

@@ -14,24 +14,22 @@ returns c =
 
 returns-2 : tie.Need-returns-2
 returns-2 c =
-    let a = c .before .before .before .before .before .before .before .before .before .before in
-    let b = sym (c .before .before .before .before .before .before .is-element .ensures) ∙ c .before .before .before .before .before .if2 .taken in
-    fills-due (plain-good (now (a .args .input)) (a .args .x) b) (rw (c .before .before .before .before .element-of .ensures) at (c .before .before .write .ensures))
+    let put = c .before .before in
+    let element = put .before .before in
+    let good = element .before in
+    let asked = good .before in
+    let a = asked .before .before .before .before .args in
+    fills-due (plain-good (now (a .input)) (a .x) (sym (asked .is-element .ensures) ∙ good .if2 .taken)) (rw (element .element-of .ensures) at (put .write .ensures))
 
 returns-3 : tie.Need-returns-3
 returns-3 c =
-    let a = c .before .before .before .before .before in
+    let fits = c .before .before in
+    let a = fits .before .before .before .args in
     let b = sym (c .before .is-element .ensures) ∙ c .if2 .left in
-    fills-due (plain-bad (now (a .args .input)) (a .args .x) (c .before .before .if1 .left) b) (record { answer = refl; buffer = refl })
+    fills-due (plain-bad (now (a .input)) (a .x) (fits .if1 .left) b) (record { answer = refl; buffer = refl })
 
 pub write-plain-spec : {M : Type 1} → statement M
 write-plain-spec =
     tie.close
-    (tie.spec
-    returns
-    (λ c κs. search needs)
-    (λ c κs. search needs)
-    (λ c κs. search needs)
-    (λ c. search needs)
-    returns-2
+    (tie.spec returns (λ c κs. search needs) (λ c κs. search needs) (λ c κs. search needs) (λ c. search needs) returns-2
     returns-3)

@@ -8,8 +8,10 @@ use Rattle.writing_element.proofs.write.write.Tie as tie
 
 returns : tie.Need-returns
 returns c =
-    let a = c .before .before .before .before .before .before .before in
-    fills-due (sym (flat-due (now (a .args .input)) (a .args .e))) (rw (c .before .before .before .before .struct-of .ensures) at (c .before .before .write-flat .ensures))
+    let put = c .before .before in
+    let flat = put .before .before in
+    let a = flat .before .before .before .args in
+    fills-due (sym (flat-due (now (a .input)) (a .e))) (rw (flat .struct-of .ensures) at (put .write-flat .ensures))
 
 pub write-spec : {M : Type 1} → statement M
 write-spec = tie.close (tie.spec (λ c κs. search needs) (λ c κs. search needs) (λ c. search needs) returns)

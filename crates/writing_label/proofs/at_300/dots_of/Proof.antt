@@ -5,7 +5,10 @@ use Rattle.writing_label.proofs.at_300.dots_of.Tie as tie
 
 returns : tie.Need-returns
 returns c =
-    let e = c .before .before .before .before .before .before .before .before .before .before .before .args .e in
+    let told2 = c .before .before .before .before in
+    let thickness = told2 .before .before in
+    let x = thickness .before .before .before .before in
+    let e = x .before .args .e in
     let g = c .struct-told6 .given in
     simp (
       back32 (e .x .0) (g .1 .1 .1 .1 .1 .1 .1 .1 .1 .0 .1 .1 .0 .1),
@@ -27,7 +30,4 @@ returns c =
     )
 
 pub dots-of-spec : {M : Type 1} → statement M
-dots-of-spec =
-    tie.close
-    (tie.spec
-    returns)
+dots-of-spec = tie.close (tie.spec returns)

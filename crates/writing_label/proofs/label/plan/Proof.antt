@@ -12,13 +12,22 @@ use borrow.Author.Needs.{needs}
 use Rattle.writing_label.proofs.label.plan.Statement.{statement}
 use Rattle.writing_label.proofs.label.plan.Tie as tie
 
-none-is : (c : tie.After-is-none) → noLabel (c .before .before .before .args .n) (record { sets = c .before .before .before .args .sets; copies = c .before .before .before .args .copies }) ≡ c .is-none .result
-none-is c = let s = c .before .before .before in sym (simp (toZ-ofZ (s .fits .sets), toZ-ofZ (s .fits .copies)) at (c .is-none .ensures))
+module _ (asked : tie.After-is-none) where
+  abbrev s : tie.Start
+  s = asked .before .before .before
 
-total-is : (c : tie.After-onto) → c .onto .result ≡ onto (c .before .before .before .before .before .before .args .m .at) (length (printText (c .before .before .before .before .before .before .args .sets) (c .before .before .before .before .before .before .args .copies)))
-total-is c =
-    let s = c .before .before .before .before .before .before in
-    c .onto .ensures ∙ ap (onto (s .args .m .at)) (simp (toZ-ofZ (s .fits .sets), toZ-ofZ (s .fits .copies)) at (c .before .print-len .ensures .is))
+  none-is : noLabel (s .args .n) (record { sets = s .args .sets; copies = s .args .copies }) ≡ asked .is-none .result
+  none-is = sym (simp (toZ-ofZ (s .fits .sets), toZ-ofZ (s .fits .copies)) at (asked .is-none .ensures))
+
+module _ (total : tie.After-onto) where
+  abbrev some : tie.Else3
+  some = total .before .before
+
+  abbrev a : tie.Start
+  a = s (some .before)
+
+  total-is : total .onto .result ≡ onto (a .args .m .at) (length (printText (a .args .sets) (a .args .copies)))
+  total-is = total .onto .ensures ∙ ap (onto (a .args .m .at)) (simp (toZ-ofZ (a .fits .sets), toZ-ofZ (a .fits .copies)) at (total .before .print-len .ensures .is))
 
 returns : tie.Need-returns
 returns c = simp (lt-ltb longest (c .before .args .long) (c .if1 .taken))
@@ -30,20 +39,18 @@ returns-3 : tie.Need-returns-3
 returns-3 c = simp (le-ltb longest (c .before .before .before .before .args .long) (c .before .before .before .if1 .left), c .before .before .if2 .left, none-is (c .before) ∙ c .if3 .taken)
 
 returns-4 : tie.Need-returns-4
-returns-4 c = simp (le-ltb longest (c .before .before .before .before .before .before .before .args .long) (c .before .before .before .before .before .before .if1 .left), c .before .before .before .before .before .if2 .left, none-is (c .before .before .before .before) ∙ c .before .before .before .if3 .left) (answer-short (c .if4 .taken) (total-is (c .before)))
+returns-4 c =
+    let none = some (c .before) .before in
+    simp (le-ltb longest (s none .args .long) (none .before .before .if1 .left), none .before .if2 .left, none-is none ∙ some (c .before) .if3 .left) (answer-short (c .if4 .taken) (total-is (c .before)))
 
 returns-5 : tie.Need-returns-5
-returns-5 c = simp (le-ltb longest (c .before .before .before .before .before .before .before .args .long) (c .before .before .before .before .before .before .if1 .left), c .before .before .before .before .before .if2 .left, none-is (c .before .before .before .before) ∙ c .before .before .before .if3 .left) (answer-fits (c .if4 .left) (total-is (c .before)))
+returns-5 c =
+    let none = some (c .before) .before in
+    simp (le-ltb longest (s none .args .long) (none .before .before .if1 .left), none .before .if2 .left, none-is none ∙ some (c .before) .if3 .left) (answer-fits (c .if4 .left) (total-is (c .before)))
 
 pub plan-spec : {M : Type 1} → statement M
 plan-spec =
     tie.close
-    (tie.spec
-    returns
-    returns-2
-    (λ c κs. search needs)
-    returns-3
-    (λ c κs. search needs)
-    (λ c κs. search needs)
-    returns-4
-    returns-5)
+    (tie.spec returns returns-2 (λ c κs. search needs)
+    returns-3 (λ c κs. search needs) (λ c κs. search needs)
+    returns-4 returns-5)

@@ -16,9 +16,16 @@ first : (c : tie.After-put-decimal)
     × (length (c .put-decimal .last .0) ≡ length (c .before .before .before .args .out .now))
 first c = let s = c .before .before .before in first-ends (s .args .out .now) (c .put-decimal .last .0) (s .args .at) (c .put-decimal .result) (s .args .sets) (s .args .copies) (toZ-ofZ (s .fits .sets)) (s .pre) (c .put-decimal .ensures)
 
+-- where the first number was put, of where the second was
+abbrev sets : tie.After-put-decimal2 → tie.After-put-decimal
+sets d = d .before .before .before .before
+
 second : (c : tie.After-put-decimal2)
-    → (c .put-decimal2 .result + 1 ≤ length (c .put-decimal2 .last .0)) × (length (c .put-decimal2 .last .0) ≡ length (c .before .before .before .before .put-decimal .last .0))
-second c = let s = c .before .before .before .before .before .before .before in second-ends (c .before .before .before .before .put-decimal .last .0) (c .put-decimal2 .last .0) (c .before .before .before .before .put-decimal .result) (c .put-decimal2 .result) (s .args .copies) (toZ-ofZ (s .fits .copies)) (first (c .before .before .before .before) .0) (c .put-decimal2 .ensures)
+    → (c .put-decimal2 .result + 1 ≤ length (c .put-decimal2 .last .0)) × (length (c .put-decimal2 .last .0) ≡ length (sets c .put-decimal .last .0))
+second c =
+    let f = sets c in
+    let s = f .before .before .before in
+    second-ends (f .put-decimal .last .0) (c .put-decimal2 .last .0) (f .put-decimal .result) (c .put-decimal2 .result) (s .args .copies) (toZ-ofZ (s .fits .copies)) (first f .0) (c .put-decimal2 .ensures)
 
 slice-write-out : tie.Need-slice-write-out
 slice-write-out c = let s = c .before in omega (arith, s .pre, print-long (s .args .sets) (s .args .copies))
@@ -47,30 +54,20 @@ slice-write-out-3 : tie.Need-slice-write-out-3
 slice-write-out-3 c = omega (arith, second (c .before .before) .0)
 
 add-result : tie.Need-add-result
-add-result c = let f = second (c .before .before) in record { fits = omega (arith, f .0, f .1, first (c .before .before .before .before .before .before) .1) }
+add-result c = let d = c .before .before in record { fits = omega (arith, second d .0, second d .1, first (sets d) .1) }
 
 same-length : tie.Need-same-length
-same-length c =
-    let f = c .before .before in
-    length-set (f .put-decimal2 .last .0) (f .put-decimal2 .result) 10 ∙ second f .1 ∙ first (c .before .before .before .before .before .before) .1
+same-length c = let d = c .before .before in length-set (d .put-decimal2 .last .0) (d .put-decimal2 .result) 10 ∙ second d .1 ∙ first (sets d) .1
 
 returns : tie.Need-returns
 returns c =
-    let s = c .before .before .before .before .before .before .before .before .before in
+    let d = c .before .before in
+    let s = sets d .before .before .before in
     print-put (s .args .sets) (s .args .copies)
-    (put-as (ap decimal (sym (toZ-ofZ (s .fits .sets)))) (c .before .before .before .before .before .before .put-decimal .ensures)) (put-as (ap decimal (sym (toZ-ofZ (s .fits .copies)))) (c .before .before .put-decimal2 .ensures))
+    (put-as (ap decimal (sym (toZ-ofZ (s .fits .sets)))) (sets d .put-decimal .ensures)) (put-as (ap decimal (sym (toZ-ofZ (s .fits .copies)))) (d .put-decimal2 .ensures))
 
 pub put-print-spec : {M : Type 1} → statement M
 put-print-spec =
     tie.close
-    (tie.spec
-    slice-write-out
-    add-put-decimal
-    put-decimal-requires
-    slice-write-out-2
-    add-put-decimal-2
-    put-decimal-requires-2
-    slice-write-out-3
-    add-result
-    same-length
-    returns)
+    (tie.spec slice-write-out add-put-decimal put-decimal-requires slice-write-out-2 add-put-decimal-2 put-decimal-requires-2
+    slice-write-out-3 add-result same-length returns)

@@ -12,10 +12,11 @@ returns c = record { is = simp (c .if1 .taken); small = λ h. absurd (true≢fal
 
 returns-2 : tie.Need-returns-2
 returns-2 c =
-    let s = c .before .before .before .before .before .before .before .before in
-    let k = c .before .before .before .put-plain .ensures in
+    let put = c .before .before .before in
+    let on = put .before .before in
+    let k = put .put-plain .ensures in
     record {
-      is = simp (c .before .before .before .before .before .if1 .left) (λ i. ((c .after .ensures ∙ ap (afterOf (s .args .c)) (k .len)) i, k .buffer i));
+      is = simp (on .if1 .left) (λ i. ((c .after .ensures ∙ ap (afterOf (on .before .before .before .args .c)) (k .len)) i, k .buffer i));
       small = λ _. omega (arith, k .len, k .small);
     }
 

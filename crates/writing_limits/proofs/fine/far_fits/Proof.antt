@@ -6,13 +6,14 @@ use Rattle.writing_limits.proofs.fine.far_fits.Tie as tie
 
 returns : tie.Need-returns
 returns c =
-    let a = c .before .before .before .before .before .field-at in
-    let b = c .before .before .before .before .field-at2 in
-    let d = c .before .before .field-at3 in
-    let f = c .before .field-at4 in
+    let across = c .before .before .before in
+    let x = across .before .before .field-at in
+    let width = across .before .field-at2 in
+    let y = c .before .before .field-at3 in
+    let height = c .before .field-at4 in
     rw (
-      rw (back32 (a .result) (a .ok), a .ensures, back32 (b .result) (b .ok), b .ensures) at (c .before .before .before .fits2 .ensures),
-      rw (back32 (d .result) (d .ok), d .ensures, back32 (f .result) (f .ok), f .ensures) at (c .fits3 .ensures),
+      rw (back32 (x .result) (x .ok), x .ensures, back32 (width .result) (width .ok), width .ensures) at (across .fits2 .ensures),
+      rw (back32 (y .result) (y .ok), y .ensures, back32 (height .result) (height .ok), height .ensures) at (c .fits3 .ensures),
     )
 
 pub far-fits-spec : {M : Type 1} → statement M

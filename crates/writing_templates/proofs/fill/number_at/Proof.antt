@@ -13,25 +13,27 @@ returns c =
 
 returns-2 : tie.Need-returns-2
 returns-2 c =
-    let e = c .before .before .before .before .before .args .e in
-    rw (c .before .before .before .if2 .taken)
+    let x = c .before .before in
+    let e = x .before .before .before .args .e in
+    rw (x .before .if2 .taken)
     (back32 (c .far .result) (c .far .ok)
-    ∙ rw (back32 (e .x) (c .before .before .struct-told .given .1 .1 .1 .1 .1 .1 .1 .1 .1 .0 .1), back32 (e .width) (c .before .struct-told2 .given .1 .1 .1 .1 .1 .1 .1 .1 .1 .1 .1 .0 .1)) at (c .far .ensures))
+    ∙ rw (back32 (e .x) (x .struct-told .given .1 .1 .1 .1 .1 .1 .1 .1 .1 .0 .1), back32 (e .width) (c .before .struct-told2 .given .1 .1 .1 .1 .1 .1 .1 .1 .1 .1 .1 .0 .1)) at (c .far .ensures))
 
 returns-3 : tie.Need-returns-3
 returns-3 c =
-    let e = c .before .before .before .before .before .before .args .e in
-    rw (c .before .before .before .if3 .taken)
+    let y = c .before .before in
+    let e = y .before .before .before .before .args .e in
+    rw (y .before .if3 .taken)
     (back32 (c .far2 .result) (c .far2 .ok)
-    ∙ rw (back32 (e .y) (c .before .before .struct-told3 .given .1 .1 .1 .1 .1 .1 .1 .1 .1 .1 .0 .1), back32 (e .height) (c .before .struct-told4 .given .1 .1 .1 .1 .1 .1 .1 .1 .1 .1 .1 .1 .0 .1)) at (c .far2 .ensures))
+    ∙ rw (back32 (e .y) (y .struct-told3 .given .1 .1 .1 .1 .1 .1 .1 .1 .1 .1 .0 .1), back32 (e .height) (c .before .struct-told4 .given .1 .1 .1 .1 .1 .1 .1 .1 .1 .1 .1 .1 .0 .1)) at (c .far2 .ensures))
 
 returns-4 : tie.Need-returns-4
 returns-4 c =
-    let a = c .before .before .before .before .before in
-    let e = a .args .e in
+    let last = c .before .before in
+    let a = last .before .before .before .args in
     back32 (c .lines-of .result) (c .lines-of .ok)
-    ∙ (rw (back32 (e .«row_bytes») (c .before .struct-told5 .given .1 .1 .1 .1 .1 .1 .1 .1 .1 .1 .1 .1 .1 .1 .0 .1)) at (c .lines-of .ensures))
-    ∙ number-lines e (a .args .i) (c .before .before .before .before .if1 .left) (c .before .before .before .if2 .left) (c .before .before .if3 .left)
+    ∙ (rw (back32 (a .e .«row_bytes») (c .before .struct-told5 .given .1 .1 .1 .1 .1 .1 .1 .1 .1 .1 .1 .1 .1 .1 .0 .1)) at (c .lines-of .ensures))
+    ∙ number-lines (a .e) (a .i) (last .before .before .if1 .left) (last .before .if2 .left) (last .if3 .left)
 
 pub number-at-spec : {M : Type 1} → statement M
 number-at-spec =

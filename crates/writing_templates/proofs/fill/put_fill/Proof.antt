@@ -20,8 +20,9 @@ put-slot-requires c κs =
 
 loop-again : tie.Need-loop-again Inv-loop μ-loop
 loop-again c =
-    let l = c .before .before .before .before .before .before in
-    filling-next (c .before .before .before .before .before .loop-test .taken) (l .loop .inv) (c .before .before .put-slot .ensures)
+    let put = c .before .before in
+    let turn = put .before .before .before in
+    filling-next (turn .loop-test .taken) (turn .before .loop .inv) (put .put-slot .ensures)
 
 same-length : tie.Need-same-length Inv-loop μ-loop
 same-length c = c .before .loop .inv .toward .long

@@ -24,8 +24,9 @@ returns-2 c =
 
 returns-3 : tie.Need-returns-3
 returns-3 c =
-    let a = c .before .before .before .before .before in
-    len-letter (a .args .e) (a .args .len) (a .args .b) (c .letter-len2 .result) (c .before .before .before .if2 .left) (c .before .before .if3 .taken)
+    let letter = c .before .before in
+    let a = letter .before .before .before .args in
+    len-letter (a .e) (a .len) (a .b) (c .letter-len2 .result) (letter .before .if2 .left) (letter .if3 .taken)
     (c .letter-len2 .ensures ∙ ap (λ (b : ℕ). length (letterOf b)) (c .before .letter-at .ensures))
 
 returns-4 : tie.Need-returns-4

@@ -12,13 +12,16 @@ use Rattle.writing_templates.proofs.template.put_command.Tie as tie
 
 put-fill-requires : tie.Need-put-fill-requires
 put-fill-requires c κs =
-    let a = c .before .before .before .before .before in
-    subst (λ (t : List ℕ). a .args .at + length (fill (a .args .e) (now (a .args .bytes)) t) ≤ length (now (a .args .out))) (sym (c .before .before .template .ensures)) (a .pre)
+    let got = c .before .before in
+    let s = got .before .before .before in
+    subst (λ (t : List ℕ). s .args .at + length (fill (s .args .e) (now (s .args .bytes)) t) ≤ length (now (s .args .out))) (sym (got .template .ensures)) (s .pre)
 
 returns : tie.Need-returns
 returns c =
-    let a = c .before .before .before .before .before .before .before .before in
-    put-as (ap (fill (a .args .e) (now (a .args .bytes))) (sym (c .before .before .before .before .before .template .ensures))) (c .before .before .put-fill .ensures)
+    let put = c .before .before in
+    let got = put .before .before .before in
+    let a = got .before .before .before .args in
+    put-as (ap (fill (a .e) (now (a .bytes))) (sym (got .template .ensures))) (put .put-fill .ensures)
 
 pub put-command-spec : {M : Type 1} → statement M
 put-command-spec =
