@@ -56,19 +56,16 @@ returns c =
 
 put-frame-requires : tie.Need-put-frame-requires Inv-loop μ-loop
 put-frame-requires c κs =
-    let element = c .before .before in let d = element .before .before in let g = element .next .given in
+    let next = c .before .before in let d = next .before .before in let g = next .next .given in
     room (d .before .loop .inv) (lineOf (frameOf (source d) (g .0 .1 .0))) (linesOf (frontFrames (source d) (g .0 .0))) (d .before .before .before .before .pre)
     (rest-is d (Element (g .0 .0) (g .0 .1 .0)) (g .1))
 
 loop-less : tie.Need-loop-less Inv-loop μ-loop
-loop-less c =
-    let put-one = c .before .before in let element = put-one .before .before .before in let g = element .next .given in
-    omega (arith, moved (element .before .before) (Element (g .0 .0) (g .0 .1 .0)) (g .1))
+loop-less c = let put-one = c .before .before in let next = put-one .before .before .before in let g = next .next .given in omega (arith, moved (next .before .before) (Element (g .0 .0) (g .0 .1 .0)) (g .1))
 
 loop-again : tie.Need-loop-again Inv-loop μ-loop
 loop-again c =
-    let put-one = c .before .before in let element = put-one .before .before .before in let g = element .next .given in
-    let d = element .before .before in
+    let put-one = c .before .before in let next = put-one .before .before .before in let d = next .before .before in let g = next .next .given in
     put (d .before .loop .inv) (linesOf (frontFrames (source d) (g .0 .0))) (rest-is d (Element (g .0 .0) (g .0 .1 .0)) (g .1)) (put-one .put-frame .ensures)
 
 pub put-elements-spec : {M : Type 1} → statement M
