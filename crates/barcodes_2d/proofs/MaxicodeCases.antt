@@ -24,8 +24,8 @@ record Cases : Type 0 where
   digits : autoMode (six ++ (0x38 ∷ 0x34 ∷ header) ++ header) ≡ pos 2
   -- 8A
   letter : autoMode (six ++ (0x38 ∷ 0x41 ∷ header)) ≡ pos 3
-  -- places are those of the decoded data: ff is three bytes there, so that the 4 stands at 6, and the header after 12 and
-  -- ff at 5
+  -- places are those of the decoded data: ff is three bytes there, so that the 4 stands at 6, and the header after 12
+  -- and ff at 5
   replaced : autoMode (decode (0x31 ∷ 0x32 ∷ 0x33 ∷ 0xff ∷ 0x34 ∷ header)) ≡ pos 2
   replaced-five : autoMode (decode (0x31 ∷ 0x32 ∷ 0xff ∷ header)) ≡ pos 4
 

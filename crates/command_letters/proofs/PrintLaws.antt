@@ -1,5 +1,5 @@
--- What stands behind a `P`, by the run of digits that it begins with (`counts-all`, `counts-comma`, `counts-other`), and
--- a count by its own (`count-run`). Assumes nothing.
+-- What stands behind a `P`, by the run of digits that it begins with (`counts-all`, `counts-comma`, `counts-other`),
+-- and a count by its own (`count-run`). Assumes nothing.
 use mathlib.Core.Path.{_≡_, refl, sym, ap, _∙_}
 use mathlib.Core.Bool.{true, false, _&&_, or-true, false≢true}
 use mathlib.Core.List.{List, [], _∷_, _++_}

@@ -11,7 +11,8 @@ use Rattle.text.specs.Fields.{same}
 use Rattle.elements.specs.declared.LineColor.the-variants.{Black, White, Xor}
 use Rattle.command_letters.specs.Print.{isCounts}
 use Rattle.command_letters.specs.declared.command.Command.{Command}
-use Rattle.command_letters.specs.declared.command.Command.the-variants.{Clear, Reference, Data, Line, Diagonal, Box}
+use Rattle.command_letters.specs.declared.command.Command.the-variants.{Clear, Reference, Data}
+use Rattle.command_letters.specs.declared.command.Command.the-variants.{Line, Diagonal, Box}
 use Rattle.command_letters.specs.declared.command.Command.the-variants.{Print, Other}
 use Rattle.command_letters.specs.declared.command.DataCommand.the-variants.{Text, Barcode, Barcode2d}
 

@@ -10,7 +10,8 @@ use Rattle.elements.specs.declared.DataSpan.{DataSpan}
 use Rattle.elements.specs.declared.LabelPosition.{LabelPosition}
 use Rattle.elements.specs.declared.PrintCounts.{PrintCounts}
 use Rattle.command_letters.specs.declared.command.Command.{Command}
-use Rattle.command_letters.specs.declared.command.Command.the-variants.{Clear, Reference, Data, Line, Diagonal, Box, Print}
+use Rattle.command_letters.specs.declared.command.Command.the-variants.{Clear, Reference, Data, Line}
+use Rattle.command_letters.specs.declared.command.Command.the-variants.{Diagonal, Box, Print}
 use Rattle.command_letters.specs.declared.command.Command.the-variants.{Other}
 use Rattle.command_letters.specs.declared.command.DataCommand.{DataCommand}
 use Rattle.command_letters.specs.declared.command.DataCommand.the-variants.{Text, Barcode, Barcode2d}

@@ -1,5 +1,5 @@
--- Fields joined by commas, taken apart again: by the first comma, and as the list of fields; and a byte that no part of a text has.
--- Assumes nothing.
+-- Fields joined by commas, taken apart again: by the first comma, and as the list of fields; and a byte that no part of
+-- a text has. Assumes nothing.
 use mathlib.Core.Path.{_≡_, refl, sym, ap, _∙_}
 use mathlib.Core.List.{List, [], _∷_, _++_, reverse, reverse-append, reverse-reverse}
 use Prim.Native.Nat.{ℕ, suc, _+_, _<_}

@@ -1,5 +1,5 @@
--- Numbers as they are written, read back: `field-decimal`; and a text that neither starts nor ends with a blank is its own trim.
--- Assumes nothing.
+-- Numbers as they are written, read back: `field-decimal`; and a text that neither starts nor ends with a blank is its
+-- own trim. Assumes nothing.
 use mathlib.Core.Path.{_≡_, sym, ap, _∙_, subst}
 use mathlib.Core.Bool.{true, false, true≢false}
 use mathlib.Core.List.{List, [], _∷_, _++_, append-assoc}

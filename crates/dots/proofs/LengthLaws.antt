@@ -1,4 +1,5 @@
--- One length: `to300` by the sign, its error, that it alone is the nearest, that it keeps the order, and where it has 32 bits. Assumes nothing.
+-- One length: `to300` by the sign, its error, that it alone is the nearest, that it keeps the order, and where it has
+-- 32 bits. Assumes nothing.
 use mathlib.Core.Path.{_≡_, refl, sym, ap, _∙_}
 use mathlib.Core.Bool.{Bool, true, false, cond, _&&_}
 use Prim.Native.Nat.{ℕ, zero, suc, _+_, _-_, _*_, _/_, _<_, _≤_}

@@ -74,7 +74,8 @@ Kept (element.BarcodeUca e) x = x .width .0 ≡ e .width
 Kept (element.BarcodeUcpe e) x = x .width .0 ≡ e .width
 Kept (element.Barcode2of5 e) x = x .width .0 ≡ e .width
 Kept (element.Barcode39 e) x = x .width .0 ≡ e .width
-Kept (element.BarcodePdf417 e) x = (x .width .0 ≡ e .barcode .«module_width») × (x .height .0 ≡ e .barcode .«row_height»)
+Kept (element.BarcodePdf417 e) x = (x .width .0 ≡ e .barcode .«module_width») ×
+    (x .height .0 ≡ e .barcode .«row_height»)
 Kept (element.BarcodeAztec e) x = Unit
 Kept (element.BarcodeDatamatrix e) x = x .height .0 ≡ e .barcode .height
 Kept (element.BarcodeQr e) x = Unit

@@ -24,7 +24,8 @@ use Rattle.structs.specs.Steps.{walkOf}
 use Rattle.dots.specs.declared.element.Element300.{Element300}
 use Rattle.dots.specs.Element.{convertedElement, orNothing}
 use Rattle.dots_label.specs.Placed.{placed}
-use Rattle.dots_label.specs.Conversion.{Drawn, DrawnOpening, Conversion, converts, denied, graphic, outside, labelConversion, conversionBy, answerOf}
+use Rattle.dots_label.specs.Conversion.{Drawn, DrawnOpening, Conversion, converts, denied}
+use Rattle.dots_label.specs.Conversion.{graphic, outside, labelConversion, conversionBy, answerOf}
 use Rattle.dots_label.specs.declared.fault.Fault.{Fault}
 use Rattle.dots_label.specs.declared.fill.Cursor.{Cursor}
 use Rattle.dots_label.specs.declared.plan.Found.{Found}

@@ -1,4 +1,5 @@
-// The elements of a label at 300 dots, one a step of the walk. `fill` is an instance of a law of the crate `lent_lists`.
+// The elements of a label at 300 dots, one a step of the walk. `fill` is an instance of a law of the crate
+// `lent_lists`.
 ghost use mathlib.Core.Path.{_≡_};
 ghost use mathlib.Core.List.{_++_};
 ghost use Prim.Native.Nat.{_≤_, _<_};
@@ -25,7 +26,8 @@ pub(crate) fn next(input: &[u8], c: Cursor) -> Cursor
     ensures { λ r. ⌜ r ≡ nextOf (now (input .entry)) c ⌝ }
 {
     let last = c.last;
-    // By its fields: copied as one with the element, the cursor would be a call of memcpy, and the library calls nothing.
+    // By its fields: copied as one with the element, the cursor would be a call of memcpy, and the library calls
+    // nothing.
     let from = c.state;
     let reference = from.reference;
     let st = WalkState {

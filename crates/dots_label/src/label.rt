@@ -1,5 +1,5 @@
-// One label from 203 to 300 dots. The borrow checker covers no function over a slice of structs: these two are walked by
-// hand.
+// One label from 203 to 300 dots. The borrow checker covers no function over a slice of structs: these two are walked
+// by hand.
 ghost use lib.ListN.{length};
 ghost use Rattle.dots_label.specs.Conversion.{conversionBy, conversionOf, Converts};
 ghost use Rattle.dots_label.specs.Walked.{entryDrawn};
@@ -38,8 +38,8 @@ pub(crate) fn convert_entry(
     answered(p)
 }
 
-// The elements of the label with this number at 300 dots, from the start of the list; or a refusal that leaves the list as
-// it came. Only the entry with this number is looked at.
+// The elements of the label with this number at 300 dots, from the start of the list; or a refusal that leaves the list
+// as it came. Only the entry with this number is looked at.
 pub fn to_300(
     input: &[u8],
     entries: &[LabelEntry],

@@ -30,8 +30,8 @@ pub enum Refusal {
     StateOutside,
     // The author of the label: a difference, its absolute value or a font product outside 32 bits.
     SizeOutside,
-    // The author of the label, by the well-site profile alone: a field with no value, a value outside the profile. Last:
-    // with them before SizeOutside a step of the static library takes ten instructions more.
+    // The author of the label, by the well-site profile alone: a field with no value, a value outside the profile.
+    // Last: with them before SizeOutside a step of the static library takes ten instructions more.
     NoValue,
     OutsideProfile,
     // The host: more labels than entries, an entry number that has no label.

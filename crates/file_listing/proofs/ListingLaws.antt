@@ -1,6 +1,6 @@
--- The lengths of lines and labels (`length-lines`, `length-label`, `length-pending`), and what a walk writes by the first
--- step's answer, as the loops over the steps want it (`lead-by`, `after-by`, `text-by`). The room for a listing is in
--- ListingRoomLaws. Assumes nothing.
+-- The lengths of lines and labels (`length-lines`, `length-label`, `length-pending`), and what a walk writes by the
+-- first step's answer, as the loops over the steps want it (`lead-by`, `after-by`, `text-by`). The room for a listing
+-- is in ListingRoomLaws. Assumes nothing.
 use mathlib.Core.Path.{_≡_, refl, sym, ap, _∙_}
 use mathlib.Core.List.{List, [], _∷_, _++_}
 use types.Run.{OneOf, miss}

@@ -1,7 +1,7 @@
 -- The earliest refused line: what `Fails` finds by the reader's acts is `Earliest` (`fails-earliest`), there is one at
--- most (`one-earliest`), and none where a string divides in range (`divides-no-earliest`). With one number for positions
--- and sizes it is the same, 13 for 19 (`together-earliest`, `earliest-together`). Labels are in DividedLabelsLaws.
--- Assumes nothing.
+-- most (`one-earliest`), and none where a string divides in range (`divides-no-earliest`). With one number for
+-- positions and sizes it is the same, 13 for 19 (`together-earliest`, `earliest-together`). Labels are in
+-- DividedLabelsLaws. Assumes nothing.
 use mathlib.Core.Path.{_≡_, refl, sym, ap, subst, _∙_}
 use mathlib.Core.List.{List, _++_}
 use mathlib.Core.Logic.{_⊎_, inl, inr}

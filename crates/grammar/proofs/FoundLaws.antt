@@ -1,6 +1,6 @@
 -- `first` finds the unit that stands first, and nothing else: EPL fills `Reads` (`reads`). Its lines are in
--- FoundLineLaws, its blocks in FoundBlockLaws. Only a line that the end of input ends asks for something of what follows
--- (`firm`). Assumes nothing.
+-- FoundLineLaws, its blocks in FoundBlockLaws. Only a line that the end of input ends asks for something of what
+-- follows (`firm`). Assumes nothing.
 use mathlib.Core.Path.{_≡_, refl, sym, ap, _∙_}
 use mathlib.Core.Bool.{true, false}
 use mathlib.Core.List.{List, [], _∷_, _++_, append-assoc, append-nil}

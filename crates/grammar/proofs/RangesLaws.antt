@@ -1,6 +1,7 @@
--- A unit is refused as 13 exactly where one of its sums leaves 32 bits (`position-outside`), as 19 exactly where they fit
--- and one of its sizes does (`size-outside`), with any other number never (`outside-numbers`); so as either exactly where
--- one of its numbers does (`out-of-range`). Where all fit it does what its role says (`in-range`). Assumes nothing.
+-- A unit is refused as 13 exactly where one of its sums leaves 32 bits (`position-outside`), as 19 exactly where they
+-- fit and one of its sizes does (`size-outside`), with any other number never (`outside-numbers`); so as either exactly
+-- where one of its numbers does (`out-of-range`). Where all fit it does what its role says (`in-range`). Assumes
+-- nothing.
 use mathlib.Core.Path.{_≡_, refl, sym, ap, subst, _∙_}
 use mathlib.Core.Bool.{Bool, true, false, cond, not, _&&_, _||_, false≢true}
 use mathlib.Core.List.{List, [], _∷_, _++_}

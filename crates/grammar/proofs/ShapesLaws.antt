@@ -1,4 +1,5 @@
--- What a unit yields is of its command's kind, and stands where its sums with the reference say (`shape`). Assumes nothing.
+-- What a unit yields is of its command's kind, and stands where its sums with the reference say (`shape`). Assumes
+-- nothing.
 use mathlib.Core.Path.{_≡_, refl, ap, subst, _∙_}
 use mathlib.Core.Bool.{Bool, true, false, cond, _&&_}
 use mathlib.Core.List.{List, [], _∷_}

@@ -1,5 +1,5 @@
--- `unitSize` is the size of the unit that stands first (`size-unit`), and what stands first has a byte at least and lies
--- within the string (`size-bad`, `size-fits`). Assumes nothing.
+-- `unitSize` is the size of the unit that stands first (`size-unit`), and what stands first has a byte at least and
+-- lies within the string (`size-bad`, `size-fits`). Assumes nothing.
 use mathlib.Core.Path.{_≡_, refl, sym, ap, _∙_}
 use mathlib.Core.List.{List, [], _∷_, _++_}
 use Prim.Native.Nat.{ℕ, suc, _<_, _≤_}

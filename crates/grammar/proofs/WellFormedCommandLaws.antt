@@ -1,6 +1,6 @@
 -- Each command that draws or has data (`meets-line`, `meets-diagonal`, `meets-box`, `meets-data`): refused as 01
--- numbers the test that fails; where all hold, an element with that data, 13 or 19. A line is in WellFormedLaws. Assumes
--- nothing.
+-- numbers the test that fails; where all hold, an element with that data, 13 or 19. A line is in WellFormedLaws.
+-- Assumes nothing.
 use mathlib.Core.Path.{_≡_, refl}
 use mathlib.Core.Bool.{Bool, true, false, cond, not, _&&_, _||_, false≢true}
 use mathlib.Core.List.{List, [], _∷_}

@@ -4,7 +4,8 @@ use mathlib.Core.List.{List, [], _∷_, _++_}
 use Prim.Native.Nat.{ℕ, _≤_}
 use Rattle.elements.specs.declared.LineColor.the-variants.{Black, White, Xor}
 use Rattle.command_letters.specs.declared.command.Command.{Command}
-use Rattle.command_letters.specs.declared.command.Command.the-variants.{Clear, Reference, Data, Line, Diagonal, Box, Print}
+use Rattle.command_letters.specs.declared.command.Command.the-variants.{Clear, Reference, Data, Line}
+use Rattle.command_letters.specs.declared.command.Command.the-variants.{Diagonal, Box, Print}
 use Rattle.command_letters.specs.declared.command.Command.the-variants.{Other}
 use Rattle.command_letters.specs.declared.command.DataCommand.the-variants.{Text, Barcode, Barcode2d}
 use Rattle.text.specs.Ascii.{ascii, letter, spelt}

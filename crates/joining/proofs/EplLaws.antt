@@ -1,5 +1,5 @@
--- The line `N` between two files stands before anything, clears wherever it is read and is no block (`clearing`); so the
--- joined text has the labels and the blocks of both (`epl-joins`). Assumes nothing.
+-- The line `N` between two files stands before anything, clears wherever it is read and is no block (`clearing`); so
+-- the joined text has the labels and the blocks of both (`epl-joins`). Assumes nothing.
 use mathlib.Core.Path.{refl}
 use mathlib.Core.List.{List, [], _∷_}
 use Prim.Native.Nat.{ℕ}

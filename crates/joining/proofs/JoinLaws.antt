@@ -1,5 +1,6 @@
--- How a walk ends, by its number (`walk-refused`, `walk-accepted`); what is due by how the two end (`due-first` and on);
--- what the call answers and writes by what is due (`joins-denied` and on), and nothing else (`joins-one`). Assumes nothing.
+-- How a walk ends, by its number (`walk-refused`, `walk-accepted`); what is due by how the two end (`due-first` and
+-- on); what the call answers and writes by what is due (`joins-denied` and on), and nothing else (`joins-one`). Assumes
+-- nothing.
 use mathlib.Core.Path.{_≡_, refl, sym, ap, _∙_}
 use mathlib.Core.List.{List, []}
 use Prim.Native.Nat.{ℕ, _≤_, _<_}

@@ -1,5 +1,5 @@
--- Trimming the end of a line keeps each byte from 21 to 7f, and what stands before it (`trim-end-keeps`): such a byte is
--- in no blank. Assumes nothing.
+-- Trimming the end of a line keeps each byte from 21 to 7f, and what stands before it (`trim-end-keeps`): such a byte
+-- is in no blank. Assumes nothing.
 use mathlib.Core.Path.{_≡_, refl, sym, ap, subst, _∙_}
 use mathlib.Core.Bool.{true, true≢false}
 use mathlib.Core.List.{List, [], _∷_, _++_, reverse, reverse-append, reverse-reverse}

@@ -1,6 +1,6 @@
 -- The label index, of functions that meet the contracts: what a refused call leaves and when it is refused as 14
--- (`index-keeps`, `open-keeps`, `long-index`, `long-open`), what `index` gives and each of its entries opens (`indexing`,
--- `unfilled-by`), and what opening any entry does, by the steps (`opening`). Assumes nothing.
+-- (`index-keeps`, `open-keeps`, `long-index`, `long-open`), what `index` gives and each of its entries opens
+-- (`indexing`, `unfilled-by`), and what opening any entry does, by the steps (`opening`). Assumes nothing.
 use mathlib.Core.Path.{_≡_, refl, sym, ap, subst, _∙_}
 use mathlib.Core.List.{List, [], _∷_, _++_}
 use mathlib.Core.Logic.{_⊎_, inl, inr}

@@ -82,7 +82,8 @@ use Rattle.dots_label.specs.Conversion.{Drawn}
 use Rattle.dots_label.specs.Promise.{Denied, Resolved}
 use Rattle.laddertick.specs.Framed.{Framed}
 use Rattle.laddertick.specs.Converted as converted
-use Rattle.laddertick.specs.Contracts.{Library, Filling, Denies, Gives, DeniesList, GivesEntries, JoinDenies, JoinGives}
+use Rattle.laddertick.specs.Contracts.{Library, Filling, Denies, Gives}
+use Rattle.laddertick.specs.Contracts.{DeniesList, GivesEntries, JoinDenies, JoinGives}
 use Rattle.laddertick.specs.Contracts.{DeniesNumbers, GivesNumbers}
 use Rattle.laddertick.specs.Proved.{Proved}
 use Rattle.laddertick.specs.Walked.{Walked, answered, Outside}
@@ -98,7 +99,8 @@ use Rattle.laddertick.specs.Changed as changed
 use Rattle.command_letters.specs.declared.command.Command.the-variants.{Clear, Print}
 use Rattle.walk_theory.specs.Labels.{flush}
 use Rattle.grammar.specs.Epl.{EplPrint}
-use Rattle.line_changes.specs.OneLine.{Ending, unitOf, Replaced, Quiet, Is, Between, Next, saysOf, atHand, InLabel, Counted}
+use Rattle.line_changes.specs.OneLine.{Ending, unitOf, Replaced, Quiet, Is, Between}
+use Rattle.line_changes.specs.OneLine.{Next, saysOf, atHand, InLabel, Counted}
 use Rattle.laddertick.specs.Lying as laid
 use Rattle.laddertick.specs.Written as written
 use Rattle.laddertick.specs.Writing.{Writing}
@@ -309,8 +311,8 @@ pub record Indexing (library : Library) (s : List ℕ) (ls : List FramedLabel) :
   pub entries : List LabelEntry
   pub gives : (l : List LabelEntry) → GivesEntries entries l (library .index s l)
   pub as-many : length entries ≡ length ls
-  -- each lies within the string and has its label's count, and the walk over the string, cut at its last place, from its
-  -- first place and with its reference answers that label and nothing else
+  -- each lies within the string and has its label's count, and the walk over the string, cut at its last place, from
+  -- its first place and with its reference answers that label and nothing else
   pub matched : Along (EntryOf epl (List ℕ) frameOf s) (entriesOf entries) ls
   -- "Any label read from its entry alone gives the frames that the full listing has for it"
   pub opened : (i : ℕ) (f : FramedLabel) → getElem? ls i ≡ some f → (l : List ℕ)
@@ -333,7 +335,8 @@ pub record Opening (library : Library) (s : List ℕ) (es : List LabelEntry) (i 
   -- "it walks the file, cut at the last place, from the first place with the entry's reference and nothing pending"
   pub walks : (e : LabelEntry) → getElem? es i ≡ some e → e .last ≤ length s → e .first ≤ e .last
       → (xs : List Answer) (z : Final)
-      → Walked (library .step (take (e .last) s)) (record { place = e .first; reference = e .reference; pending = 0 }) xs z
+      → Walked (library .step (take (e .last) s))
+      (record { place = e .first; reference = e .reference; pending = 0 }) xs z
       → (l : List ℕ) → Opens (answered (take (e .last) s) [] xs) z i l (library .open-label s es i l)
 
 -- 01, "Joining two files", of accepted strings s and t: ls and ms are the labels that the steps over them answer, and k
@@ -370,7 +373,8 @@ pub record Joins (library : Library) (s t : List ℕ) : Type 0 where
       → Joining library s t (answered s [] xs) (answered t [] ys) k
 
 -- 01, "What lies where": what is told of a label with the elements xs, opened from the entry with the number i
-pub record Answers (library : Library) (s : List ℕ) (es : List LabelEntry) (i : ℕ) (xs : List LabelElement) : Type 0 where
+pub record Answers (library : Library) (s : List ℕ) (es : List LabelEntry) (i : ℕ) (xs : List LabelElement)
+    : Type 0 where
   -- the numbers of "the elements whose position lies in a closed rectangle, in file order", 15 giving how many
   pub inside : (b : Rectangle) → isTurned b ≡ false → (l : List ℕ)
       → GivesNumbers (insideOf b xs) l (library .inside s es i b l)
@@ -426,7 +430,8 @@ pub record Resolution (library : Library) (s : List ℕ) (es : List LabelEntry) 
   -- the label that it opens, its elements ds in file order, each with the first byte of its line or block: refused, or
   -- converted
   pub opened : (f : FramedLabel) → opening.openingOf s es i ≡ theory.opens f → (ds : List Drawn) × Framed s es i f ds
-      × ((l : List Element300) → Resolved (f .says) ds l (library .to-300 s es i l .list) (library .to-300 s es i l .answer))
+      × ((l : List Element300)
+      → Resolved (f .says) ds l (library .to-300 s es i l .list) (library .to-300 s es i l .answer))
 
 -- the flat answers of the static library, a : what `step` answers
 pub record Flat : Type 0 where
@@ -442,8 +447,8 @@ pub record Flat : Type 0 where
   pub end : (st : State LabelPosition) → flatOf (ended st) .kind ≡ 18
 
 -- 01, "One line changed", of two accepted files that are alike but for one command line behind the units `before`, t in
--- s and t′ in s′, both with the ending e (`Replaced`); ls and ls′ are the labels answered, n and n′ elements are pending
--- at the end
+-- s and t′ in s′, both with the ending e (`Replaced`); ls and ls′ are the labels answered, n and n′ elements are
+-- pending at the end
 pub record OneLineChanged (s s′ t t′ : List ℕ) (e : Ending) (before : List EplUnit) (ls ls′ : List FramedLabel)
     (n n′ : ℕ) : Type 0 where
   -- both divide alike but for the line, also behind it
@@ -519,7 +524,8 @@ pub record Claims (library : Library) : Type 0 where
   pub writing : Writing library
   -- a graphic block is its bytes, blanks, `GW`, four fields and payload; a line has none
   pub block-bytes : (bs p : List ℕ) (h : Header) → blocks (block bs h p)
-      ≡ (bs ++ spelt "GW" (h .x ++ spelt "," (h .y ++ spelt "," (h .width ++ spelt "," (h .lines ++ spelt "," p))))) ∷ []
+      ≡ (bs ++ spelt "GW" (h .x ++ spelt "," (h .y ++ spelt ","
+      (h .width ++ spelt "," (h .lines ++ spelt "," p))))) ∷ []
   pub line-blocks : (t : List ℕ) → (blocks (line t) ≡ []) × (blocks (last t) ≡ [])
   pub flat : Flat
   -- the listing program's buffer always has room: no listing has more than 16 bytes for each byte of its input, and 15

@@ -224,7 +224,8 @@ table =
     -- "Fewer than two quotes, or no data: nothing is read"
     ∷ several "A0,0,0,1,1,1,N,\"x\nb0,0,Q\"\"\nP1\n" ""
     -- "what follows its leading ASCII blanks": 20, 09, 0c, 0d before `GW`, and 0b, after which it is passed over
-    ∷ several " \t\u{c}\rGW1,2,1,2,a\nP1\n" "00 00000001 00000001 00000001\n04 00000001 00000002 00000001 00000002 00000002 610a\n"
+    ∷ several " \t\u{c}\rGW1,2,1,2,a\nP1\n"
+    "00 00000001 00000001 00000001\n04 00000001 00000002 00000001 00000002 00000002 610a\n"
     ∷ several "\u{b}GW1,2,1,2,a\nP1\n" ""
     -- "prints if something is pending, and the reference stays"; "nothing is then pending"
     ∷ several "P1\nR1,2\nLO1,2,9,4\nP1\nP\nLO1,2,9,5\nP2\n"

@@ -16,7 +16,8 @@ abbrev pub framesOf : List ℕ → List Drawn → List (List ℕ)
 framesOf t [] = []
 framesOf t (d ∷ ds) = frameOf t (d .element) ∷ framesOf t ds
 
--- ds are the elements of the label f that the entry with the number i opens, each with the place of its unit's first byte
+-- ds are the elements of the label f that the entry with the number i opens, each with the place of its unit's first
+-- byte
 pub record Framed (s : List ℕ) (es : List LabelEntry) (i : ℕ) (f : FramedLabel) (ds : List Drawn) : Type 0 where
   pub drawn : drawnOf s es i ≡ theory.opens (record { count = f .count; says = f .says; frames = ds })
   -- "the first byte of the line": there the unit stands that yields it

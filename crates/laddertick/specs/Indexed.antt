@@ -43,7 +43,8 @@ abbrev pub table : List Case
 table =
     -- "one entry a label in print order"; first and last place, element count, and the reference point at its start
     index two 2 entries
-    ∷ index "R5,6\nP\nLO1,2,3,4\nP\nLO,,,\nLO,,,\nP" 9 (entry 7 19 1 (pos 5) (pos 6) ∷ entry 19 32 2 (pos 5) (pos 6) ∷ [])
+    ∷ index "R5,6\nP\nLO1,2,3,4\nP\nLO,,,\nLO,,,\nP" 9
+    (entry 7 19 1 (pos 5) (pos 6) ∷ entry 19 32 2 (pos 5) (pos 6) ∷ [])
     -- "An entry starts just after the print line before it, one that printed nothing included, or at 0"
     ∷ index "P\nLO,,,\nP" 1 (entry 2 9 1 (pos 0) (pos 0) ∷ [])
     ∷ index "N\nLO,,,\nP" 1 (entry 0 9 1 (pos 0) (pos 0) ∷ [])

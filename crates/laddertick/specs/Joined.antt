@@ -7,8 +7,8 @@ use Rattle.elements.specs.Given.{text, denied}
 use Rattle.text.specs.Ascii.{ascii, spelt}
 use Rattle.laddertick.specs.Table.{Case, lists, joins}
 
--- How the rows are written: lines, each with its LF; two files and the lines of the joined text; a file by its lines, and
--- what `list` writes for it; two files, the file that is refused, number and place
+-- How the rows are written: lines, each with its LF; two files and the lines of the joined text; a file by its lines,
+-- and what `list` writes for it; two files, the file that is refused, number and place
 abbrev lines : List String → List ℕ
 lines [] = []
 lines (l ∷ ls) = spelt l (10 ∷ lines ls)

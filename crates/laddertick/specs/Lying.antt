@@ -54,7 +54,8 @@ table =
     ∷ touching (ascii file) entries 1 (box (pos 45) (pos 66) (pos 299) (pos 470)) (text [])
     ∷ touching (ascii file) entries 1 (box (pos 350) (pos 470) (pos 999) (pos 999)) (text (2 ∷ []))
     -- "those boxes and diagonals": a graphic, a bar code and a 2D code at the same place are none
-    ∷ touching (ascii "GW5,5,1,1,a\nB5,5,0,E30,2,2,9,N,\"1\"\nb5,5,Q,\"1\"\nLO5,5,1,1\nP") (entry 0 57 4 (pos 0) (pos 0) ∷ []) 0 (box (pos 0) (pos 0) (pos 9) (pos 9)) (text (3 ∷ []))
+    ∷ touching (ascii "GW5,5,1,1,a\nB5,5,0,E30,2,2,9,N,\"1\"\nb5,5,Q,\"1\"\nLO5,5,1,1\nP")
+    (entry 0 57 4 (pos 0) (pos 0) ∷ []) 0 (box (pos 0) (pos 0) (pos 9) (pos 9)) (text (3 ∷ []))
     -- "An element's far edges may pass 32 bits and must not wrap"
     ∷ touching (ascii file) entries 1 (box (pos 2147483647) (pos 10) (pos 2147483647) (pos 10)) (text (3 ∷ []))
     ∷ touching (ascii file) entries 1 (box (negsuc 0) (pos 9) (pos 0) (pos 10)) (text [])
@@ -63,11 +64,14 @@ table =
     ∷ nearest (ascii file) entries 1 (point (pos 101) (pos 150)) (element 1)
     ∷ nearest (ascii file) entries 1 (point (pos 290) (pos 900)) (element 2)
     -- "the earlier one if equal": 100 from both of 0, 0 and 200, 0
-    ∷ nearest (ascii "LO0,0,1,1\nLO200,0,1,1\nLO100,101,1,1\nP") (entry 0 37 3 (pos 0) (pos 0) ∷ []) 0 (point (pos 100) (pos 0)) (element 0)
+    ∷ nearest (ascii "LO0,0,1,1\nLO200,0,1,1\nLO100,101,1,1\nP") (entry 0 37 3 (pos 0) (pos 0) ∷ []) 0
+    (point (pos 100) (pos 0)) (element 0)
     -- the larger of 70 and 70 is less than 100, their sum is not
-    ∷ nearest (ascii "LO100,0,1,1\nLO70,70,1,1\nP") (entry 0 25 2 (pos 0) (pos 0) ∷ []) 0 (point (pos 0) (pos 0)) (element 1)
+    ∷ nearest (ascii "LO100,0,1,1\nLO70,70,1,1\nP") (entry 0 25 2 (pos 0) (pos 0) ∷ []) 0 (point (pos 0) (pos 0))
+    (element 1)
     -- a distance past 32 bits
-    ∷ nearest (ascii "LO2147483647,0,1,1\nLO0,0,1,1\nP") (entry 0 30 2 (pos 0) (pos 0) ∷ []) 0 (point (negsuc 2147483647) (pos 0)) (element 1)
+    ∷ nearest (ascii "LO2147483647,0,1,1\nLO0,0,1,1\nP") (entry 0 30 2 (pos 0) (pos 0) ∷ []) 0
+    (point (negsuc 2147483647) (pos 0)) (element 1)
     -- "22 a rectangle whose far corner is below its near one on either axis (place 0), directly after 14 and before 21"
     ∷ inside (ascii file) entries 7 (box (pos 2) (pos 1) (pos 1) (pos 1)) (denied 22 0)
     ∷ touching (ascii file) entries 7 (box (pos 1) (pos 2) (pos 1) (pos 1)) (denied 22 0)

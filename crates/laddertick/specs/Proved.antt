@@ -59,7 +59,8 @@ use Rattle.writing_label.proofs.label.write_label.Statement as write-label
 use Rattle.writing_label.proofs.label.write_label as write-label-fn
 use Rattle.writing_label.proofs.at_300.write_label_300.Statement as write-label-300
 use Rattle.writing_label.proofs.at_300.write_label_300 as write-label-300-fn
-use Rattle.laddertick.specs.Contracts.{Stepped, Listed, Normalised, Judged, StrictlyListed, Entered, Opened, JoinedBy}
+use Rattle.laddertick.specs.Contracts.{Stepped, Listed, Normalised, Judged}
+use Rattle.laddertick.specs.Contracts.{StrictlyListed, Entered, Opened, JoinedBy}
 use Rattle.laddertick.specs.Contracts.{Inside, Touching, Nearest}
 use Rattle.laddertick.specs.Contracts.{Converted, Spelled, SpelledPlain, SpelledLabel, SpelledLabel300}
 
@@ -68,9 +69,9 @@ abbrev pub Owes : (n : ℕ) (ps : List (PK n)) (r : RK n) → Out n ps r → Out
 Owes n ps r P Q = (κs : Lfts n) (a : Dens κs ps) (x : resT r κs .Denot) (z : AtExit (endedOf n ps r) κs) → P κs a x z
     → Q κs a x z
 
--- the same of a function whose proof is a walk of its MIR by hand, as over a lent slice of structs: T are its arguments,
--- c its clauses; it has no `requires`, and its `ensures` is this fact of the arguments, the result and the arguments at
--- exit
+-- the same of a function whose proof is a walk of its MIR by hand, as over a lent slice of structs: T are its
+-- arguments, c its clauses; it has no `requires`, and its `ensures` is this fact of the arguments, the result and the
+-- arguments at exit
 abbrev pub Says : (T : Ended)
     → ((M : Type 1) (𝓤 : URA M) → Heap 𝓤 → Atoms 𝓤 → (Memory → SProp 𝓤) → (Routine → Fun 𝓤) → Clauses 𝓤 T)
     → ((κs : Lfts (T .signature .lifetimes)) → Args (T .signature) κs → Res (T .signature) κs → AtExit T κs → Type 0)

@@ -51,12 +51,24 @@ text m h w =
 -- a box by its width, height and thickness
 abbrev box : LabelPosition → ℕ → ℕ → ℕ → LabelElement
 box at w h t =
-    GraphicBox (record { position = at; width = pos w; height = pos h; «border_thickness» = pos t; «line_color» = Black })
+    GraphicBox (record {
+      position = at;
+      width = pos w;
+      height = pos h;
+      «border_thickness» = pos t;
+      «line_color» = Black;
+    })
 
 -- a diagonal of thickness 1 by its width, height and direction
 abbrev diagonal : LabelPosition → ℕ → ℕ → Bool → LabelElement
 diagonal at w h d =
-    DiagonalLine (record { position = at; width = pos w; height = pos h; «border_thickness» = pos 1; «top_to_bottom» = d })
+    DiagonalLine (record {
+      position = at;
+      width = pos w;
+      height = pos h;
+      «border_thickness» = pos 1;
+      «top_to_bottom» = d;
+    })
 
 -- a graphic at 0,0 by its row bytes, and the place and length of its payload
 abbrev graphic : ℕ → ℕ → ℕ → LabelElement

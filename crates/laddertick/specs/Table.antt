@@ -1,7 +1,7 @@
 -- Tables of computed cases: inputs, each with all that the steps answer from the fresh state on, up to and including
 -- the end or the refusal, or with its normalised text, or with the lines that `list` writes, or with what the profile
--- says of it, or with its index; two inputs with what they are joined to; an input before and after one line is changed.
--- `Holds`: every row does.
+-- says of it, or with its index; two inputs with what they are joined to; an input before and after one line is
+-- changed. `Holds`: every row does.
 use mathlib.Core.Path.{_≡_}
 use mathlib.Core.List.{List, [], _∷_, _++_}
 use Prim.Native.Nat.{ℕ, zero, suc}
@@ -51,8 +51,8 @@ answers s = answersOf (suc (left s fresh)) s fresh
 
 -- an input with all that is answered to it, with its normalised text, with its listing, with the profile's verdict on
 -- it, with what is due to `strict_list`; with its index, for a list of so many entries; with what opening one of these
--- entries by its number is due, or with its label at 300 dots for a list of so many elements; with its listing before and
--- after one line is changed
+-- entries by its number is due, or with its label at 300 dots for a list of so many elements; with its listing before
+-- and after one line is changed
 pub data Case : Type 0 where
   says : List ℕ → List EplAnswer → Case
   becomes : List ℕ → List ℕ → Case

@@ -1,7 +1,7 @@
 // The host's entry points: a walk a step at a time, the listing of a file, and its normalised text; the well-site
-// profile's verdict on a file, and its listing under the profile; the label index, and one label opened; what lies where
-// on a label; a label from 203 to 300 dots; two files joined; one element written as its command, also from a struct; with
-// every type that a host is handed. What is claimed of them stands in specs/Claims.antt.
+// profile's verdict on a file, and its listing under the profile; the label index, and one label opened; what lies
+// where on a label; a label from 203 to 300 dots; two files joined; one element written as its command, also from a
+// struct; with every type that a host is handed. What is claimed of them stands in specs/Claims.antt.
 pub use dots::element::Element300;
 pub use dots::length::Dots300;
 pub use dots_label::label::Label300;

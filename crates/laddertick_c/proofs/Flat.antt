@@ -1,5 +1,5 @@
--- A function that passes all that it is lent on for good, the last of it a list that is written to, and makes the answer
--- flat, as C has it:
+-- A function that passes all that it is lent on for good, the last of it a list that is written to, and makes the
+-- answer flat, as C has it:
 --     fn c_work(…, out: &mut [T]) -> Written {
 --         flat(work(…, out))
 --     }
@@ -114,7 +114,8 @@ module _ (n : ℕ) (ps : List (Slot n)) (ks : Kepts ps) (S : Answer) (Says : (κ
               let E : Locals 𝓤 H = (ty written, l₀) ∷ env 𝓤 H τs bs E₁ in
               let spot : (i : ℕ) → spotOf 𝓤 H E (at i) ≡ spotOf 𝓤 H E₁ i = spot-past 𝓤 H τs bs E₁ in
               regoal ! (λ (vs : List Val). params′ E vs (runs Ca Λ E (function .body) (atRet E Q))) (are-parts κs a) refl $ params1 ! $
-              -- [the locals after the parameters, the last first, and the last parameter; the others; the result; …; the tokens; what is lent]
+              -- [the locals after the parameters, the last first, and the last parameter; the others; the result; …;
+              -- the tokens; what is lent]
               move ! (8 ∷ []) $ passes-all ! τs bs us (ws .0) $ pass1 ! (init ! 7 refl (ws .1 .0)) $ pass0 ! $
               assigns ! (addr ! (at-spot ! (spot 0) (fld ! refl (hop ! (look-in ! 7 (sub ! 0 refl (whole !))) (stop !))))) (at-spot ! (spot 2) (stop !)) (init ! 3 refl (tt, tt)) $
               assigns ! (agg ! (and-then ! (load ! (at-spot ! (spot 2) (stop !)) (look ! 3 refl)) (and-then ! (load ! (at-spot ! (spot 0) (fld ! refl (stop !))) (look-in ! 7 (sub ! 1 refl (whole !)))) (no-more !)))) (at-spot ! (spot 3) (stop !)) (init ! 1 refl (tt, (tt, (ws .1 .0 .1 .1 .0, tt)))) $

@@ -1,7 +1,7 @@
 -- The parameters of a function all at once, whatever their number: each is a local of one cell.
 --     Values, Blocks       a value for each type; a block for each
 --     row, firsts          the values in a row, before others; the first values of a row
---     locals, env, copies, past    the locals, where they lie, they as operands from local k on, and the local after them
+--     locals, env, copies, past    the locals, where they lie, they as operands from local k on, the local after them
 --     rooms, held          room for all of them; all of them with their values
 --     allocs-all, passes-all, frees-all    they are allocated, passed and freed
 --     looks-all, reads-in, opds-all        they are read as operands of a call

@@ -134,8 +134,8 @@ pub extern "C" fn laddertick_open(
     of_filled(open_label(input, entries, number, out))
 }
 
-// The first file normalised, a line `N` and the second normalised, from the start of out; or a refusal that leaves out as
-// it came, and which file was refused.
+// The first file normalised, a line `N` and the second normalised, from the start of out; or a refusal that leaves out
+// as it came, and which file was refused.
 #[no_mangle]
 pub extern "C" fn laddertick_join(first: &[u8], second: &[u8], out: &mut [u8]) -> Joined
     ensures { λ r. ⌜ Joins (now (out .exit)) (now (out .entry)) (now (first .entry)) (now (second .entry)) r ⌝ }
@@ -193,8 +193,8 @@ pub extern "C" fn laddertick_nearest(
     of_found(nearest(input, entries, number, q))
 }
 
-// The elements of the label with this number at 300 dots an inch, from the start of the list; or a refusal that leaves the
-// list as it came.
+// The elements of the label with this number at 300 dots an inch, from the start of the list; or a refusal that leaves
+// the list as it came.
 #[no_mangle]
 pub extern "C" fn laddertick_to_300(
     input: &[u8],
@@ -207,8 +207,8 @@ pub extern "C" fn laddertick_to_300(
     to_300(input, entries, number, list)
 }
 
-// The element as one command and its LF, from the start of out; or a refusal that leaves out as it came. A struct that no
-// element has is 23.
+// The element as one command and its LF, from the start of out; or a refusal that leaves out as it came. A struct that
+// no element has is 23.
 #[no_mangle]
 pub extern "C" fn laddertick_write(input: &[u8], element: Element, out: &mut [u8]) -> Written
     ensures { λ r. ⌜ Fills (now (out .exit)) (now (out .entry)) (plainDue (now (input .entry)) element) (givenFlat r) ⌝ }

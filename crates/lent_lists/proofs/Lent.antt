@@ -43,8 +43,8 @@ module _ (I R S : RattleType) (ps : List (Slot 2)) (ks : Kepts ps) where
   abbrev pub takes-list : Ended
   takes-list = record { signature = record { lifetimes = 2; outlives = []; params = shrSliceOf (0 ∷ []) tt (plain (λ _. I)) ∷ mutSliceOf (1 ∷ []) tt (plain (λ _. R)) ∷ ps; result = plain (λ _. S) }; kept = (yes, (yes, ks)) }
 
-  -- the `&[I]` i at κ₀, with the share s₀ of its token; the list ys at p, o, which has n elements as the machine has it;
-  -- and the data
+  -- the `&[I]` i at κ₀, with the share s₀ of its token; the list ys at p, o, which has n elements as the machine has
+  -- it; and the data
   module _ {M : Type 1} (𝓤 : URA M) (H : Heap 𝓤) (A : Atoms 𝓤) (c : Clauses 𝓤 takes-list) (κ₀ : Lft) (s₀ : Share) (i : RefT (List (I .Denot))) (p o n : ℕ) (ys : List (R .Denot))
       (bs : (κs : Lfts 2) → Denots (typesAt ps κs)) (vs : (κs : Lfts 2) → Valss (typesAt ps κs)) (g : (κs : Lfts 2) (x : RefT (List (R .Denot))) → c κs (i, (x, bs κs)) .ghost) where
     abbrev lives : ℕ → Lfts 2

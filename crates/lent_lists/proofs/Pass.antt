@@ -258,7 +258,8 @@ module _ (E C : Elem) (Turn : List ℕ → E .type .D → C .type .D × List ℕ
             assigns ! (bin ! (load ! (from ! (fld ! refl (stop !))) (look-in ! 26 (sub ! 0 refl (whole !)))) (load ! (from ! (stop !)) (look ! 16 refl)) tt) (from ! (stop !)) (init ! 8 refl (tt, tt)) $
             rewrite ! 8 (λ (p : ℕ). ‵ (fat fullShare tyPtr l₁₁ 0 (vptr b p))) (sym (place-is (mem R .size) o i)) refl $
             move ! (4 ∷ 5 ∷ []) $ looks-slice ! tt R (Is R) (shows 𝓤 H (𝓖 .A) R) (vals E) (elem E .tells) (LL.copy (E .type) (E .copies) 𝓤 H (𝓖 .A) W) ys b o (λ q′. elem-out ! R (Is R) (shows 𝓤 H (𝓖 .A) R) (vals E) (elem E .tells) q′ ys i d b o less (λ is.
-            -- [xs[i]; what it owns; the others; what shuts; what is lent of the list; the buffer; its token; the bytes; the token; _12; …]
+            -- [xs[i]; what it owns; the others; what shuts; what is lent of the list; the buffer; its token; the bytes;
+            -- the token; _12; …]
             assigns ! (of-opd ! (load ! (from ! (hop ! (look ! 11 refl) (stop !))) (look-raw ! 0 refl))) (from ! (stop !)) (init ! 9 refl (typed 𝓤 H 𝓜 𝓖 (elem E) e (val E e) is .0)) $
             elem-back ! R q′ ys i d (vals E e) b o less $ shuts-slice ! tt R q′ ys b o $ move ! (2 ∷ 3 ∷ 4 ∷ 5 ∷ 1 ∷ 0 ∷ []) $
             -- its turn

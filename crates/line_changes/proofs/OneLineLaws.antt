@@ -1,5 +1,6 @@
--- One line changed: the two files divide alike but for it (`old-division`, `new-division`), and what the theory of one unit changed says
--- of their labels, by the next `N` or print line (`stays`, `in-label`, `at-end`, `counted`). Assumes nothing.
+-- One line changed: the two files divide alike but for it (`old-division`, `new-division`), and what the theory of one
+-- unit changed says of their labels, by the next `N` or print line (`stays`, `in-label`, `at-end`, `counted`). Assumes
+-- nothing.
 use mathlib.Core.Path.{_≡_, refl, sym, ap, subst, _∙_}
 use mathlib.Core.List.{List, [], _∷_, _++_, append-nil}
 use Prim.Native.Nat.{ℕ, _+_}

@@ -1,10 +1,17 @@
--- What the walks by hand of the field reader's functions share. Such a function asks nothing of its caller, its `ensures` is a plain fact of what was passed and of the result, and it has no `&mut`.
---     Known, Knowns        of a type: how its values are spelled, that they can be no other, and that they are of its MIR type.        usize, i32, slice, numbered, reader     of the types at hand.        typed     a value is of its MIR type
---     Own, Held, opens, shuts      what a `FieldReader` owns is what its slice and its place own together, each way
+-- What the walks by hand of the field reader's functions share. Such a function asks nothing of its caller, its
+-- `ensures` is a plain fact of what was passed and of the result, and it has no `&mut`.
+--     Known, Knowns    of a type: how its values are spelled, that they can be no other, and that they are of its MIR
+--                      type; usize, i32, slice, numbered, reader of the types at hand; typed: a value is of its MIR
+-- type
+--     Own, Held, opens, shuts
+--                      what a `FieldReader` owns is what its slice and its place own together, each way
 --     Fact, Says       what is said of a function's result, and the contract that says it
---     calls            a call within a walk: the tokens and what the callee's parameters own go to it, and what its result owns comes back with them, and with what is said of it
---     walked           a function meets its contract, from a walk of its body: that begins with the tokens and what the parameters own, and ends (`Ends`) with what the result owns and the tokens, where its `ensures` is shown (`shown`).
---                      Nothing is had of a parameter at exit, since nothing is said of it there: what it owns may go to a callee or into the result
+--     calls            a call within a walk: the tokens and what the callee's parameters own go to it, and what its
+--                      result owns comes back with them, and with what is said of it
+--     walked           a function meets its contract, from a walk of its body: that begins with the tokens and what the
+--                      parameters own, and ends (`Ends`) with what the result owns and the tokens, where its `ensures`
+--                      is shown (`shown`). Nothing is had of a parameter at exit, since nothing is said of it there:
+--                      what it owns may go to a callee or into the result
 -- Assumes nothing.
 use mathlib.Core.Path.{_≡_}
 use mathlib.Core.List.{List, [], _∷_}

@@ -1,6 +1,6 @@
--- The strict reading of EPL: it can be read (`strict-epl-reads`), walks along the plain one up to 17 or 18 (`along`), and
--- divides where the plain one does and every field is as the profile asks (`strict-divides`, `divides-strict`); 17 and 18
--- tell the first field that is not (`fails-objected`). Assumes nothing.
+-- The strict reading of EPL: it can be read (`strict-epl-reads`), walks along the plain one up to 17 or 18 (`along`),
+-- and divides where the plain one does and every field is as the profile asks (`strict-divides`, `divides-strict`); 17
+-- and 18 tell the first field that is not (`fails-objected`). Assumes nothing.
 use mathlib.Core.Path.{_≡_, refl, sym, ap, subst, _∙_}
 use mathlib.Core.List.{List, [], _++_}
 use mathlib.Core.Logic.{_⊎_, inl, inr}

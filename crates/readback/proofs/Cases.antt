@@ -1,6 +1,6 @@
 -- One element of each kind as it is written, and the two boxes of the rule for `X` (01, "Writing EPL"), by computation.
--- No two numbers of an element are the same. The claims cite the table Written (crate `laddertick`), which says the same
--- from the characters of files. Assumes nothing.
+-- No two numbers of an element are the same. The claims cite the table Written (crate `laddertick`), which says the
+-- same from the characters of files. Assumes nothing.
 use mathlib.Core.Path.{_≡_, refl}
 use mathlib.Core.Bool.{true, false}
 use mathlib.Core.List.{List, [], _∷_}

@@ -1,4 +1,5 @@
--- Bounds of what the readers answer: numbers within 32 bits, sizes at least 1, clamped numbers within their limits. Assumes nothing.
+-- Bounds of what the readers answer: numbers within 32 bits, sizes at least 1, clamped numbers within their limits.
+-- Assumes nothing.
 use mathlib.Core.Path.{_≡_, refl}
 use mathlib.Core.Bool.{Bool, true, false, cond, true≢false, _&&_}
 use mathlib.Core.List.{List, [], _∷_}

@@ -1,4 +1,5 @@
--- What any line yields at reference 0,0 has the numbers of a writable element (01, "Writing EPL": 23 for no other element). Assumes nothing.
+-- What any line yields at reference 0,0 has the numbers of a writable element (01, "Writing EPL": 23 for no other
+-- element). Assumes nothing.
 use mathlib.Core.List.{List}
 use Prim.Native.Nat.{ℕ}
 use lib.Dec.{eqb}

@@ -1,5 +1,5 @@
--- The look at the units that the plain walk has read: one turn of its loop (`further`, `stopped`, `at-end`), and that it
--- gives the verdict of the strict walk (`look-checks`, `long-checks`). Assumes nothing.
+-- The look at the units that the plain walk has read: one turn of its loop (`further`, `stopped`, `at-end`), and that
+-- it gives the verdict of the strict walk (`look-checks`, `long-checks`). Assumes nothing.
 use mathlib.Core.Path.{_≡_, refl, sym, ap, subst, _∙_}
 use mathlib.Core.Bool.{Bool, true, false, cond}
 use mathlib.Core.List.{List}

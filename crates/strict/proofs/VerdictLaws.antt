@@ -1,6 +1,7 @@
--- What the verdict on a file of at most 16,777,216 bytes says: it is accepted exactly where it divides in range and every
--- field is as the profile asks (`accepted-by`, `clean-listed`, `listed-accepted`), a refusal other than 17 and 18 is the
--- plain walk's (`refused-plain`), and 17 and 18 tell the first field that is not (`objected-by`). Assumes nothing.
+-- What the verdict on a file of at most 16,777,216 bytes says: it is accepted exactly where it divides in range and
+-- every field is as the profile asks (`accepted-by`, `clean-listed`, `listed-accepted`), a refusal other than 17 and 18
+-- is the plain walk's (`refused-plain`), and 17 and 18 tell the first field that is not (`objected-by`). Assumes
+-- nothing.
 use mathlib.Core.Path.{_≡_, refl, sym, ap, subst, _∙_}
 use mathlib.Core.Bool.{Bool, true, false, _||_}
 use mathlib.Core.List.{List, []}

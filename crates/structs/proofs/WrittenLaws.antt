@@ -1,5 +1,5 @@
--- A flat answer says what the library answered (`flat-refusal`, `flat-uncounted`, `flat-spotless`): no refusal has the number 0. Assumes
--- nothing.
+-- A flat answer says what the library answered (`flat-refusal`, `flat-uncounted`, `flat-spotless`): no refusal has the
+-- number 0. Assumes nothing.
 use mathlib.Core.Path.{_≡_, refl, ap}
 use mathlib.Core.Bool.{Bool, false, cond}
 use lib.Dec.{eqb}

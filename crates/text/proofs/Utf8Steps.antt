@@ -102,7 +102,8 @@ pub record Counted (s : List ℕ) (most n : ℕ) (t : List ℕ) : Type 0 where
   pub below : n ≤ most
   pub is : length (decode s) ≡ n + length (decode t)
 
--- the loop of `write_decoded`: what t, the end of s, is decoded to, stored on what is written so far, gives the end's bytes
+-- the loop of `write_decoded`: what t, the end of s, is decoded to, stored on what is written so far, gives the end's
+-- bytes
 pub record Stored (s out₀ : List ℕ) (at : ℕ) (out : List ℕ) (o : ℕ) (t : List ℕ) : Type 0 where
   pub fits : length t ≤ length s
   pub room : o + length (decode t) ≡ at + length (decode s)

@@ -1,6 +1,6 @@
 -- A language of one-byte units, which meets what this crate asks of a language, and the definitions on small strings of
--- it by computation: what a theorem cannot pin, as the first place of an entry behind a print line that printed nothing.
--- Assumes nothing.
+-- it by computation: what a theorem cannot pin, as the first place of an entry behind a print line that printed
+-- nothing. Assumes nothing.
 use mathlib.Core.Path.{_≡_, refl, sym, ap, _∙_}
 use mathlib.Core.Bool.{Bool, true, false, cond}
 use mathlib.Core.List.{List, [], _∷_}

@@ -1,5 +1,5 @@
--- Orders, distances and closed intervals over the integers; rectangles touch just where they share a point (01, "What lies where").
--- Assumes nothing.
+-- Orders, distances and closed intervals over the integers; rectangles touch just where they share a point (01, "What
+-- lies where"). Assumes nothing.
 use mathlib.Core.Path.{_≡_, refl, sym, ap, _∙_}
 use mathlib.Core.Bool.{Bool, true, false, _&&_, _||_, true≢false}
 use Prim.Native.Nat.{ℕ, zero, suc, _<_}

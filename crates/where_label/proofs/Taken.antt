@@ -3,8 +3,8 @@
 --         let e = entry_or(entries, number, no_entry());
 --         find_entry(input, list, entries.len(), number, e, r)
 --     }
--- The entry is taken out of its list, and the list of numbers is passed on for good to `find_entry`, which does the work
--- (`law`). Assumes nothing.
+-- The entry is taken out of its list, and the list of numbers is passed on for good to `find_entry`, which does the
+-- work (`law`). Assumes nothing.
 use mathlib.Core.Path.{_≡_, refl, _∙_, ap, subst}
 use Prim.Native.Nat.{ℕ}
 use mathlib.Core.List.{List, [], _∷_}

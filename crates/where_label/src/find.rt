@@ -1,4 +1,5 @@
-// The elements that a rectangle finds: counted by a first walk, then their numbers written into a lent list by a second.
+// The elements that a rectangle finds: counted by a first walk, then their numbers written into a lent list by a
+// second.
 ghost use mathlib.Core.Path.{_≡_};
 ghost use Prim.Native.Nat.{_+_, _<_, _≤_};
 ghost use lib.ListN.{length};

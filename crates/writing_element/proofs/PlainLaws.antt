@@ -1,5 +1,5 @@
--- What a host's struct is due: what its element is (`plain-flat`), and 23 where no element has it (`plain-none`). Assumes
--- nothing.
+-- What a host's struct is due: what its element is (`plain-flat`), and 23 where no element has it (`plain-none`).
+-- Assumes nothing.
 use mathlib.Core.Path.{_≡_, ap, _∙_}
 use mathlib.Core.Bool.{true, false}
 use mathlib.Core.List.{List}

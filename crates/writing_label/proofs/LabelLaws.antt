@@ -1,6 +1,6 @@
--- What a label of structs is due: of the structs of elements, what those elements are due (`plain-label`); else 23 at the
--- first struct that no element has, or whose element is not writable (`label-bad`). Every list is the one or the other
--- (`label-parts`), and a text is due to the structs of elements alone (`label-told`). Assumes nothing.
+-- What a label of structs is due: of the structs of elements, what those elements are due (`plain-label`); else 23 at
+-- the first struct that no element has, or whose element is not writable (`label-bad`). Every list is the one or the
+-- other (`label-parts`), and a text is due to the structs of elements alone (`label-told`). Assumes nothing.
 use mathlib.Core.Path.{_≡_, refl, sym, ap, _∙_}
 use mathlib.Core.Bool.{Bool, true, false, cond, _&&_}
 use mathlib.Core.List.{List, [], _∷_, _++_, map}

@@ -128,5 +128,6 @@ module _ (E C : Elem) (Turn : List ℕ → E .type .D → C .type .D × List ℕ
           -- [what the result owns; the tokens; the last values; the bytes; the elements; what the holder keeps]
           drop t $ use1 W (raw (Token 𝓤 H A κ₀ s₀) ⊛ (raw (Token 𝓤 H A κ₁ s₁) ⊛ raw (Token 𝓤 H A (ν ∷ []) fullShare))) (apart3 𝓤 H A W κ₀ κ₁ (ν ∷ []) s₀ s₁ fullShare) $ split t $ move t (1 ∷ []) $ split t $
           move t (1 ∷ []) $ use1 W (‵ (flft (ν ∷ []) fullShare) ⊛ ‵ ftrue) (id⊢ 𝓤 _) $ split t $ move t (4 ∷ []) $ fsplit t $ drop t $ fsplit t $ drop t $ fsplit t $ fsplit t $ move t (1 ∷ []) $ feqL t (λ l.
-          -- [the list's last value; the others'; the new token; nothing; a token; a token; the bytes; the elements; what the holder keeps]
+          -- [the list's last value; the others'; the new token; nothing; a token; a token; the bytes; the elements;
+          -- what the holder keeps]
           move t (2 ∷ 8 ∷ 0 ∷ []) $ back u8 𝓤 H A ℓ κ s γ p o n ys t tt ν δ (ws .1 .1 .0) long room l $ move t (2 ∷ 3 ∷ []) $ drop t $ drop t $ move t (0 ∷ 1 ∷ 4 ∷ 3 ∷ 5 ∷ 2 ∷ []) $ k u r (ws .1 .1 .0) told (l ∙ long) is₂)))

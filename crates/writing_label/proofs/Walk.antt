@@ -7,8 +7,8 @@
 --         finish(out, p, e, sets, copies)
 --     }
 -- at any struct T and at any functions that ask nothing: `measuring`, `plan`, `begin` and `finish` meet equations, and
--- `pass` is `lent_lists`' Pass. Then it meets any contract that follows of two passes (`law`). The buffer is lent again for each
--- call.
+-- `pass` is `lent_lists`' Pass. Then it meets any contract that follows of two passes (`law`). The buffer is lent again
+-- for each call.
 --     Due          what is to be shown: that what is said follows of two passes
 -- Assumes nothing.
 use mathlib.Core.Path.{_≡_, refl, sym, _∙_, ap, subst}

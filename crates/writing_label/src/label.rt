@@ -1,6 +1,6 @@
 // A label as EPL: `N`, its elements, its print line. Its elements are measured first, so that a refused call stores
-// nothing. The borrow checker covers no function over a slice of structs: `pass` is an instance of a law of `lent_lists`, and
-// `write_label` is walked by hand.
+// nothing. The borrow checker covers no function over a slice of structs: `pass` is an instance of a law of
+// `lent_lists`, and `write_label` is walked by hand.
 ghost use mathlib.Core.Path.{_≡_};
 ghost use Prim.Native.Nat.{_+_, _≤_};
 ghost use lib.ListN.{length};
@@ -61,7 +61,8 @@ fn is_none(n: usize, sets: i32, copies: i32) -> bool
     (n == 0) | (LONGEST < n) | (sets < 0) | (copies < 0)
 }
 
-// What is answered, from the lengths of the input, of the list and of the buffer, and the elements as they were measured.
+// What is answered, from the lengths of the input, of the list and of the buffer, and the elements as they were
+// measured.
 pub(crate) fn plan(long: usize, n: usize, room: usize, m: Tally, sets: i32, copies: i32) -> Filled
     ensures { λ r. ⌜ r ≡ planOf long n room m sets copies ⌝ }
 {

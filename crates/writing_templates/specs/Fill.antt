@@ -66,8 +66,8 @@ letterAt e i =
 abbrev pub letterOf : ℕ → List ℕ
 letterOf b = cond (eqb b 0) [] (b ∷ [])
 
--- what stands where b stands in a template: b itself, nothing for 0; from 128 on one of eighteen numbers; from 148 on one of nine
--- letters; then the data d
+-- what stands where b stands in a template: b itself, nothing for 0; from 128 on one of eighteen numbers; from 148 on
+-- one of nine letters; then the data d
 abbrev pub slot : Element → List ℕ → ℕ → List ℕ
 slot e d b =
     cond (ltb b 128) (letterOf b)

@@ -1,5 +1,5 @@
--- `laddertick_c::laddertick_to_300` meets its contract: a walk of its MIR, by hand. All that is lent is passed on for good to
--- `to_300`. Assumes nothing.
+-- `laddertick_c::laddertick_to_300` meets its contract: a walk of its MIR, by hand. All that is lent is passed on for
+-- good to `to_300`. Assumes nothing.
 use mathlib.Core.Path.{refl}
 use Prim.Native.Nat.{ℕ}
 use mathlib.Core.List.{List, [], _∷_}

@@ -1,5 +1,5 @@
--- `crate::put::by_16` meets its contract. Invariant: `Run`, where the first run was stored on l, the first i bytes of src
--- now are. The last run may overlap them. Measure: src's length less i.
+-- `crate::put::by_16` meets its contract. Invariant: `Run`, where the first run was stored on l, the first i bytes of
+-- src now are. The last run may overlap them. Measure: src's length less i.
 -- Assumes nothing.
 use Prim.Native.Nat.{_-_}
 use native.Mathlib.Omega.{arith}

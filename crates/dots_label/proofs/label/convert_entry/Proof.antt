@@ -1,5 +1,5 @@
--- `dots_label::label::convert_entry` meets its contract: a walk of its MIR, by hand. `plan_entry` says what is to be done,
--- and the list is passed on for good to `fill`. Assumes nothing.
+-- `dots_label::label::convert_entry` meets its contract: a walk of its MIR, by hand. `plan_entry` says what is to be
+-- done, and the list is passed on for good to `fill`. Assumes nothing.
 use mathlib.Core.Path.{_≡_, refl, sym, _∙_, subst}
 use Prim.Native.Nat.{ℕ, _≤_, _<_}
 use mathlib.Core.List.{List, [], _∷_, _++_}

@@ -1,5 +1,5 @@
--- `dots_label::plan::find_label` meets its contract. Invariant: the label is the first from `first` on, and only elements
--- stand between `first` and here. Measure: what is left of the walk. Assumes nothing.
+-- `dots_label::plan::find_label` meets its contract. Invariant: the label is the first from `first` on, and only
+-- elements stand between `first` and here. Measure: what is left of the walk. Assumes nothing.
 use mathlib.Core.Path.{_≡_, refl, sym, ap, _∙_}
 use mathlib.Core.List.{List}
 use Prim.Native.Nat.{ℕ, _-_}

@@ -1,5 +1,5 @@
--- `file_listing::listing::list` meets its contract: the first pass says what is due, and only what fits is written. Assumes
--- nothing.
+-- `file_listing::listing::list` meets its contract: the first pass says what is due, and only what fits is written.
+-- Assumes nothing.
 use mathlib.Core.Path.{_≡_, sym, ap, _∙_, refl}
 use mathlib.Core.List.{List, []}
 use Prim.Native.Nat.{ℕ}

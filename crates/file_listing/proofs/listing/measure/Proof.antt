@@ -1,5 +1,5 @@
--- `file_listing::listing::measure` meets its contract. Invariant: what is counted so far, and the rest of the walk. Measure:
--- what is left of it.
+-- `file_listing::listing::measure` meets its contract. Invariant: what is counted so far, and the rest of the walk.
+-- Measure: what is left of it.
 -- Assumes nothing.
 use mathlib.Core.Path.{_≡_, sym, ap, _∙_, refl}
 use mathlib.Core.List.{List, [], _∷_, _++_}

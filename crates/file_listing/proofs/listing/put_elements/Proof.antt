@@ -1,5 +1,5 @@
--- `file_listing::listing::put_elements` meets its contract. Invariant: with the frames that the walk still begins with, the
--- buffer is what it shall be. Measure: what is left of the walk. Assumes nothing.
+-- `file_listing::listing::put_elements` meets its contract. Invariant: with the frames that the walk still begins with,
+-- the buffer is what it shall be. Measure: what is left of the walk. Assumes nothing.
 use mathlib.Core.Path.{_≡_, refl, _∙_}
 use mathlib.Core.List.{List}
 use Prim.Native.Nat.{ℕ, _-_}

@@ -1,5 +1,5 @@
--- `file_listing::listing::put_labels` meets its contract. Invariant: with the labels from start on, the buffer is what it
--- shall be; only elements stand between start and here. Measure: what is left of the walk. Assumes nothing.
+-- `file_listing::listing::put_labels` meets its contract. Invariant: with the labels from start on, the buffer is what
+-- it shall be; only elements stand between start and here. Measure: what is left of the walk. Assumes nothing.
 use mathlib.Core.Path.{_≡_, refl, sym, ap, _∙_}
 use mathlib.Core.List.{List, [], append-nil}
 use Prim.Native.Nat.{ℕ, _-_}

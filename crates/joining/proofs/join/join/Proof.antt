@@ -1,5 +1,5 @@
--- `joining::join::join` meets its contract: the first walk's refusal, the second's, 25, 15, or the text is written. Assumes
--- nothing.
+-- `joining::join::join` meets its contract: the first walk's refusal, the second's, 25, 15, or the text is written.
+-- Assumes nothing.
 use mathlib.Core.Path.{_≡_, sym, subst}
 use mathlib.Core.List.{List}
 use Prim.Native.Nat.{ℕ, _≤_, _<_}

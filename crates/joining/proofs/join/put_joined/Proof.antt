@@ -1,5 +1,5 @@
--- `joining::join::put_joined` meets its contract: the first text, the line, the second text, one behind the other. Assumes
--- nothing.
+-- `joining::join::put_joined` meets its contract: the first text, the line, the second text, one behind the other.
+-- Assumes nothing.
 use mathlib.Core.Path.{refl, sym}
 use mathlib.Core.List.{[], _∷_, append-nil}
 use native.Mathlib.Omega.{arith}

@@ -1,5 +1,5 @@
--- `label_index::entry::next` meets its contract. Invariant: the next entry is that of the walk from here on, one more being
--- counted as pending than are. Measure: the bytes left. Assumes nothing.
+-- `label_index::entry::next` meets its contract. Invariant: the next entry is that of the walk from here on, one more
+-- being counted as pending than are. Measure: the bytes left. Assumes nothing.
 use mathlib.Core.Path.{_≡_, refl, sym, ap, _∙_}
 use mathlib.Core.List.{List}
 use Prim.Native.Nat.{ℕ, _+_, _-_, _≤_, _<_, suc}

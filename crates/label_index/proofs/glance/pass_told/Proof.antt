@@ -1,5 +1,5 @@
--- `label_index::glance::pass_told` meets its contract. Invariant: what stands between the start and here is told so. Measure:
--- the bytes left. Assumes nothing.
+-- `label_index::glance::pass_told` meets its contract. Invariant: what stands between the start and here is told so.
+-- Measure: the bytes left. Assumes nothing.
 use mathlib.Core.List.{List}
 use Prim.Native.Nat.{ℕ, _-_}
 use native.Mathlib.Omega.{arith}

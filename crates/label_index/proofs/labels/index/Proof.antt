@@ -1,5 +1,5 @@
--- `label_index::labels::index` meets its contract: a walk of its MIR, by hand. `plan` says what is to be done, and the list is
--- passed on for good to `fill`. Assumes nothing.
+-- `label_index::labels::index` meets its contract: a walk of its MIR, by hand. `plan` says what is to be done, and the
+-- list is passed on for good to `fill`. Assumes nothing.
 use mathlib.Core.Path.{_≡_, refl, sym, _∙_, ap, subst}
 use Prim.Native.Nat.{ℕ, _≤_, _<_}
 use mathlib.Core.List.{List, [], _∷_, _++_}

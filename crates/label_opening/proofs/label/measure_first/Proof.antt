@@ -1,5 +1,6 @@
--- `label_opening::label::measure_first` meets its contract. Invariant: the label is the first from `first` on, only elements
--- stand between `first` and here, and their lines are counted. Measure: what is left of the walk. Assumes nothing.
+-- `label_opening::label::measure_first` meets its contract. Invariant: the label is the first from `first` on, only
+-- elements stand between `first` and here, and their lines are counted. Measure: what is left of the walk. Assumes
+-- nothing.
 use mathlib.Core.Path.{_≡_, refl, ap, _∙_}
 use mathlib.Core.List.{List}
 use Prim.Native.Nat.{ℕ, _+_, _-_, _*_, _≤_}

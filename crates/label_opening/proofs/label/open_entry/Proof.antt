@@ -1,5 +1,5 @@
--- `label_opening::label::open_entry` meets its contract: where the walk starts, then the walk of the file that is cut at the
--- entry's last place. Assumes nothing.
+-- `label_opening::label::open_entry` meets its contract: where the walk starts, then the walk of the file that is cut
+-- at the entry's last place. Assumes nothing.
 use mathlib.Core.Path.{_≡_, sym, ap, subst, _∙_}
 use mathlib.Core.List.{List}
 use Prim.Native.Nat.{ℕ}

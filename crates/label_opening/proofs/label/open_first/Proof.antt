@@ -1,5 +1,5 @@
--- `label_opening::label::open_first` meets its contract: the first pass says what is due, and only what fits is written.
--- Assumes nothing.
+-- `label_opening::label::open_first` meets its contract: the first pass says what is due, and only what fits is
+-- written. Assumes nothing.
 use mathlib.Core.Path.{_≡_, subst}
 use native.Mathlib.Omega.{arith}
 use Rattle.elements.proofs.GivenLaws.{fills-denied, fills-short, fills-written}

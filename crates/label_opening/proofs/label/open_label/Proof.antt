@@ -1,5 +1,5 @@
--- `label_opening::label::open_label` meets its contract: a walk of its MIR, by hand. The entry is taken out of the list, and
--- the buffer is passed on for good to `open_entry`, which does the work. Assumes nothing.
+-- `label_opening::label::open_label` meets its contract: a walk of its MIR, by hand. The entry is taken out of the
+-- list, and the buffer is passed on for good to `open_entry`, which does the work. Assumes nothing.
 use mathlib.Core.Path.{_≡_, refl, _∙_, ap, subst}
 use Prim.Native.Nat.{ℕ}
 use mathlib.Core.List.{List, [], _∷_}

@@ -1,5 +1,5 @@
--- `normal_lines::line::put_line` meets its contract: a line that ends near at once, and any other by its pieces. Assumes
--- nothing.
+-- `normal_lines::line::put_line` meets its contract: a line that ends near at once, and any other by its pieces.
+-- Assumes nothing.
 use mathlib.Core.Path.{_≡_, sym, ap, _∙_}
 use mathlib.Core.List.{List}
 use Prim.Native.Nat.{ℕ}

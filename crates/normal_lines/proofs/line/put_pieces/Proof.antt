@@ -1,5 +1,5 @@
--- `normal_lines::line::put_pieces` meets its contract. Invariant: the line is written up to done, and blanks go on to seen.
--- Measure: the bytes left. Assumes nothing.
+-- `normal_lines::line::put_pieces` meets its contract. Invariant: the line is written up to done, and blanks go on to
+-- seen. Measure: the bytes left. Assumes nothing.
 use mathlib.Core.Path.{_≡_, refl, sym, ap, _∙_}
 use mathlib.Core.Logic.{_⊎_, ⊎-elim, inl, inr}
 use mathlib.Core.List.{List, _++_}

@@ -1,5 +1,5 @@
--- `profile::rule::by_rules` meets its contract. Invariant: the rules from k on, over t, say what all say over s. Measure:
--- the rules left.
+-- `profile::rule::by_rules` meets its contract. Invariant: the rules from k on, over t, say what all say over s.
+-- Measure: the rules left.
 -- Assumes nothing.
 use mathlib.Core.Path.{_≡_, refl, sym, ap, _∙_}
 use mathlib.Core.List.{List}

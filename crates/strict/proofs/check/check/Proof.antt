@@ -1,5 +1,5 @@
--- `strict::check::check` meets its contract: a file that is too long is left to the plain walk; else the look at what the
--- plain walk has read. Assumes nothing.
+-- `strict::check::check` meets its contract: a file that is too long is left to the plain walk; else the look at what
+-- the plain walk has read. Assumes nothing.
 use mathlib.Core.List.{List}
 use Prim.Native.Nat.{ℕ}
 use native.Mathlib.Omega.{arith}

@@ -1,5 +1,5 @@
--- `strict::check::plain` meets its contract. Invariant: the walk from here ends as the whole one. Measure: the bytes left.
--- Assumes nothing.
+-- `strict::check::plain` meets its contract. Invariant: the walk from here ends as the whole one. Measure: the bytes
+-- left. Assumes nothing.
 use mathlib.Core.Path.{_≡_, sym, ap, _∙_}
 use Prim.Native.Nat.{_-_}
 use native.Mathlib.Omega.{arith}

@@ -1,4 +1,5 @@
--- `strict::listing::strict_list` meets its contract: 17 and 18 by the check, else what is due to `list`. Assumes nothing.
+-- `strict::listing::strict_list` meets its contract: 17 and 18 by the check, else what is due to `list`. Assumes
+-- nothing.
 use mathlib.Core.Path.{_≡_, sym, ap, _∙_}
 use mathlib.Core.List.{List}
 use mathlib.Core.Logic.{inl, inr}

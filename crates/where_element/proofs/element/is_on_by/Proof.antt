@@ -1,5 +1,5 @@
--- `where_element::element::is_on_by` meets its contract: a box, a diagonal, or fields of another form, told by their tag.
--- Assumes nothing.
+-- `where_element::element::is_on_by` meets its contract: a box, a diagonal, or fields of another form, told by their
+-- tag. Assumes nothing.
 use Rattle.numbers.proofs.IntLaws.{back32}
 use Rattle.where_element.proofs.ElementLaws.{off-tag}
 use borrow.Author.Needs.{needs}

@@ -1,5 +1,6 @@
--- `where_label::find::count_first` meets its contract. Invariant: the label is the first from `first` on, only elements stand
--- between `first` and here, and those that are found are counted. Measure: what is left of the walk. Assumes nothing.
+-- `where_label::find::count_first` meets its contract. Invariant: the label is the first from `first` on, only elements
+-- stand between `first` and here, and those that are found are counted. Measure: what is left of the walk. Assumes
+-- nothing.
 use mathlib.Core.Path.{_≡_, refl, ap, _∙_}
 use mathlib.Core.Bool.{Bool}
 use mathlib.Core.List.{List}

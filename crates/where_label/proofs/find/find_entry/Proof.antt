@@ -1,5 +1,5 @@
--- `where_label::find::find_entry` meets its contract: the checks in their order, then the walk of the file that is cut at the
--- entry's last place. Assumes nothing.
+-- `where_label::find::find_entry` meets its contract: the checks in their order, then the walk of the file that is cut
+-- at the entry's last place. Assumes nothing.
 use mathlib.Core.Path.{_≡_, sym, ap, subst, _∙_}
 use mathlib.Core.Bool.{Bool, true, false, cond}
 use Prim.Native.Nat.{ℕ, _≤_}

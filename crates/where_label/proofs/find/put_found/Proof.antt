@@ -1,5 +1,5 @@
--- `where_label::find::put_found` meets its contract. Invariant: with the numbers that the walk still has, the list is what it
--- shall be. Measure: what is left of the walk. Assumes nothing.
+-- `where_label::find::put_found` meets its contract. Invariant: with the numbers that the walk still has, the list is
+-- what it shall be. Measure: what is left of the walk. Assumes nothing.
 use mathlib.Core.Bool.{Bool}
 use mathlib.Core.List.{List, _++_}
 use mathlib.Core.Path.{_≡_, refl, sym, ap, subst, _∙_}

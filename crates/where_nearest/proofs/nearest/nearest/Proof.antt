@@ -1,5 +1,5 @@
--- `where_nearest::nearest::nearest` meets its contract: a walk of its MIR, by hand. The entry is taken out of its list, and
--- `nearest_entry` does the work. Assumes nothing.
+-- `where_nearest::nearest::nearest` meets its contract: a walk of its MIR, by hand. The entry is taken out of its list,
+-- and `nearest_entry` does the work. Assumes nothing.
 use mathlib.Core.Path.{_≡_, refl, _∙_, ap}
 use Prim.Native.Nat.{ℕ}
 use mathlib.Core.List.{List, [], _∷_}

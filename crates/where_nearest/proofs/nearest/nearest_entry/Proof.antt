@@ -1,5 +1,5 @@
--- `where_nearest::nearest::nearest_entry` meets its contract: where the walk starts, then the walk of the file that is cut at the
--- entry's last place. Assumes nothing.
+-- `where_nearest::nearest::nearest_entry` meets its contract: where the walk starts, then the walk of the file that is
+-- cut at the entry's last place. Assumes nothing.
 use mathlib.Core.Path.{_≡_, sym, ap, _∙_}
 use Prim.Native.Nat.{ℕ, _≤_}
 use lib.ListN.{length}

@@ -1,5 +1,5 @@
--- `where_nearest::nearest::nearest_first` meets its contract. Invariant: p is pending here, and the best is the nearest of p,
--- whatever follows. Measure: what is left of the walk. Assumes nothing.
+-- `where_nearest::nearest::nearest_first` meets its contract. Invariant: p is pending here, and the best is the nearest
+-- of p, whatever follows. Measure: what is left of the walk. Assumes nothing.
 use mathlib.Core.Path.{_≡_, refl, sym, ap, _∙_}
 use mathlib.Core.List.{List, [], _∷_, _++_, append-assoc, append-nil}
 use Prim.Native.Nat.{ℕ, suc, _-_}

@@ -1,4 +1,5 @@
--- `writing_label::at_300::pass_300` meets its contract: it is `lent_lists`' Pass, at an element and a tally. Assumes nothing.
+-- `writing_label::at_300::pass_300` meets its contract: it is `lent_lists`' Pass, at an element and a tally. Assumes
+-- nothing.
 use denote.Triple.Table.{cited}
 use Rattle.writing_label.specs.Tally.{TurnOf300}
 use Rattle.lent_lists.proofs.Pass as passing
