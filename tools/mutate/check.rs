@@ -44,12 +44,13 @@ pub struct WorkingCopy {
 }
 
 impl WorkingCopy {
-    /// Copies the repository, or another copy. What stood there goes.
+    /// Copies the repository, or another copy. What stood there goes. Of proved libraries links serve: the toolchain writes a library as new files, and never into
+    /// the old ones.
     pub fn make(from: &Path, to: &Path) -> WorkingCopy {
         let _ = fs::remove_dir_all(to);
         fs::create_dir_all(to.join("target/kept")).expect("a folder below target/mutate");
-        for part in ["crates", "crates.txt", "target/rlib", "target/stamp", "target/log"] {
-            let status = Command::new("cp").arg("-a").arg(from.join(part)).arg(to.join(part)).status();
+        for (part, how) in [("crates", "-a"), ("crates.txt", "-a"), ("target/rlib", "-al"), ("target/stamp", "-a"), ("target/log", "-a")] {
+            let status = Command::new("cp").arg(how).arg(from.join(part)).arg(to.join(part)).status();
             assert!(status.is_ok_and(|s| s.success()), "{part} cannot be copied to {}", to.display());
         }
         WorkingCopy { root: to.into(), modules: None }
