@@ -1,5 +1,5 @@
 //! Wrong programs: edits as must-fail edits are, each of one crate. They are tried crate by crate over its incremental folder, as the small edits are,
-//! which takes a third of what a whole check of the crate does. The folder has the modules of the proof that `rt check` has just seen to stand. A program has no such folder, since its run may be what refuses it.
+//! which on the average takes a third of a whole check of the crate. The folder has the modules of the proof that `rt check` has just seen to stand. A program has no such folder, since its run may be what refuses it.
 
 use crate::check::{Verdict, WorkingCopy};
 use crate::report::{self, Report};
