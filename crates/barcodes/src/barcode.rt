@@ -20,7 +20,7 @@ use parameters::reading::LineReading;
 use parameters::rotation::epl_rotation;
 
 // What the fourth field says.
-#[derive(Drop)]
+#[derive(Clone, Copy)]
 pub enum Symbology {
     Code128(BarcodeMode),
     // With a check digit, or without.
@@ -127,7 +127,7 @@ pub(crate) fn is_listed(s: Symbology) -> bool
     }
 }
 
-#[derive(Drop)]
+#[derive(Clone, Copy)]
 pub struct Bars {
     pub narrow: i32,
     pub wide: i32,
@@ -135,7 +135,7 @@ pub struct Bars {
     pub line: bool,
 }
 
-#[derive(Drop)]
+#[derive(Clone, Copy)]
 pub struct BarcodeFields {
     pub at: LabelPosition,
     pub rotation: i32,
@@ -144,7 +144,7 @@ pub struct BarcodeFields {
 }
 
 // What a bar code of any type has.
-#[derive(Drop)]
+#[derive(Clone, Copy)]
 pub struct Barcode {
     pub orientation: FieldOrientation,
     pub bars: Bars,

@@ -1,3 +1,5 @@
 // `B`: bar codes.
+#![tactic(auto)]
+
 pub mod barcode;
 pub mod ratio;

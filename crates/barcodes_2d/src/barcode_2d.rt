@@ -24,7 +24,7 @@ use parameters::position::{Placed, place};
 use parameters::reading::LineReading;
 use parameters::rotation::epl_rotation;
 
-#[derive(Drop)]
+#[derive(Clone, Copy)]
 pub enum Symbology2d {
     Aztec,
     Datamatrix,

@@ -12,7 +12,7 @@ use numbers::int::{max, min};
 use numbers::number::{Number, or_default};
 
 // Which values of a parameter count: the definitions' word for the three rules that `with_option` follows.
-#[derive(Drop)]
+#[derive(Clone, Copy)]
 pub enum Wanted {
     Any,
     // A number within 32 bits.
@@ -46,7 +46,7 @@ fn told(n: u32) -> Number
 }
 
 // The value of a letter: what it held; its byte where it is one byte, else 0; and the place behind it.
-#[derive(Drop)]
+#[derive(Clone, Copy)]
 pub struct Value {
     pub number: u32,
     pub alone: u8,
@@ -110,7 +110,7 @@ fn value_from(s: &[u8], from: usize) -> Value
 // What counts of each letter that some type has; a letter has one rule in every type, `e` one for Aztec and one for QR.
 // Of `c`, `l`, `m`, `r` what the last one held; of the others the last number. The last level letter, or 0. Whether the
 // last `t` is 1.
-#[derive(Drop)]
+#[derive(Clone, Copy)]
 pub struct Options {
     pub c: u32,
     pub d: u32,

@@ -1,4 +1,6 @@
 // Bytes as they stand: a search, fields, classes, decoding, and bytes written.
+#![tactic(auto)]
+
 pub mod class;
 pub mod fields;
 pub mod put;

@@ -9,7 +9,7 @@ use elements::LineColor;
 use parameters::params::tail;
 
 // The commands that have data between quotes: `A`, `B`, `b`.
-#[derive(Drop)]
+#[derive(Clone, Copy)]
 pub enum DataCommand {
     Text,
     Barcode,
@@ -17,7 +17,7 @@ pub enum DataCommand {
 }
 
 // The command that a line spells by its first letters.
-#[derive(Drop)]
+#[derive(Clone, Copy)]
 pub enum Command {
     Clear,
     Reference,

@@ -1,2 +1,4 @@
 // One line of an EPL file, whatever it says.
+#![tactic(auto)]
+
 pub mod line;

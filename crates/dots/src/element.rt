@@ -7,7 +7,7 @@ use structs::answer::Element;
 
 // The fields of the flat element, at 300 dots an inch: no length in 203rds can stand in one of its lengths.
 #[repr(C)]
-#[derive(Drop)]
+#[derive(Clone, Copy)]
 pub struct Element300 {
     // 1 to 16, its frame's kind.
     pub kind: u8,
@@ -45,7 +45,7 @@ pub struct Element300 {
 }
 
 // The lengths of an element at 203 dots an inch. Those that its kind has not are 0.
-#[derive(Drop)]
+#[derive(Clone, Copy)]
 pub struct Lengths203 {
     pub x: Dots203,
     pub y: Dots203,
@@ -55,7 +55,7 @@ pub struct Lengths203 {
 }
 
 // The same at 300.
-#[derive(Drop)]
+#[derive(Clone, Copy)]
 pub struct Lengths300 {
     pub x: Dots300,
     pub y: Dots300,
@@ -65,14 +65,14 @@ pub struct Lengths300 {
 }
 
 // All of them, or which are outside 32 bits: the position (13) before another (19).
-#[derive(Drop)]
+#[derive(Clone, Copy)]
 pub enum Lengthened {
     Lengths(Lengths300),
     Position,
     Size,
 }
 
-#[derive(Drop)]
+#[derive(Clone, Copy)]
 pub enum ConvertedElement {
     Element(Element300),
     Position,

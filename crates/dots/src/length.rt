@@ -6,14 +6,14 @@ ghost use Rattle.dots.specs.Length.{to300, converted};
 use numbers::int::bits;
 
 #[repr(C)]
-#[derive(Drop)]
+#[derive(Clone, Copy)]
 pub struct Dots203(pub i32);
 
 #[repr(C)]
-#[derive(Drop)]
+#[derive(Clone, Copy)]
 pub struct Dots300(pub i32);
 
-#[derive(Drop)]
+#[derive(Clone, Copy)]
 pub enum Converted {
     Dots(Dots300),
     Outside,

@@ -6,5 +6,3 @@ pub mod PlanLaws
 pub mod PromiseLaws
 -- places are where units begin
 pub mod BeginsLaws
--- a cursor, an element, a plan and an answer, as data that is lent and passed
-pub mod Elems

@@ -13,7 +13,7 @@ use walk::answer::Answer;
 use walk::step::step;
 
 // A refusal's number, and the first byte of its line; or 0, and how many elements the label has.
-#[derive(Drop)]
+#[derive(Clone, Copy)]
 pub(crate) struct Fault {
     pub number: u32,
     pub place: usize,

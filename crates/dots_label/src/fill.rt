@@ -1,5 +1,5 @@
-// The elements of a label at 300 dots, one a step of the walk. `fill` is an instance of a law of the crate
-// `lent_lists`.
+// The elements of a label at 300 dots, one a step of the walk. What a loop that fills a list has to know of lists is in
+// the crate `lent_lists`.
 ghost use Rattle.std.specs.Prelude.{◌≡◌, ◌++◌, ◌≤◌, ◌<◌, length, drop};
 ghost use Rattle.lent_lists.specs.Filled.{made};
 ghost use Rattle.dots_label.specs.Walked.{next_of, WithinCursor};
@@ -11,7 +11,7 @@ use walk::answer::Answer;
 use walk::step::step;
 
 // The element made last, the state behind it, and where the file is cut.
-#[derive(Drop)]
+#[derive(Clone, Copy)]
 pub struct Cursor {
     pub element: Element300,
     pub state: WalkState,

@@ -1,5 +1,4 @@
-// One label from 203 to 300 dots. The borrow checker covers no function over a slice of structs: these two are walked
-// by hand.
+// One label from 203 to 300 dots.
 ghost use Rattle.std.specs.Prelude.{length};
 ghost use Rattle.dots_label.specs.Conversion.{conversion_by, conversion_of, Converts};
 ghost use Rattle.dots_label.specs.Walked.{entry_drawn};
@@ -12,7 +11,7 @@ use label_index::entry::{LabelEntry, entry_or, no_entry};
 // number 0: the list is filled, place is how many elements the label has, and sets and copies are its print's. Else a
 // refusal: its number and its place.
 #[repr(C)]
-#[derive(Drop)]
+#[derive(Clone, Copy)]
 pub struct Label300 {
     pub number: u32,
     pub place: usize,

@@ -15,14 +15,14 @@ use walk::answer::Answer;
 use walk::step::step;
 
 // The first label of a walk: the state that its elements begin at, and its sets and copies; or a refusal and its place.
-#[derive(Drop)]
+#[derive(Clone, Copy)]
 pub(crate) enum Found {
     Label(WalkState, PrintCounts),
     NoLabel(Refusal, usize),
 }
 
 // What the call answers, how many elements it makes, and where the walk that makes them starts.
-#[derive(Drop)]
+#[derive(Clone, Copy)]
 pub struct Plan {
     pub answer: Label300,
     pub todo: usize,

@@ -1,4 +1,4 @@
--- `LO`, `LW`, `Le`, `LS`, `X` (01, "Grammar").
+-- `LO`, `LW`, `LE`, `LS`, `X` (01, "Grammar").
 use Rattle.std.specs.Prelude.{ℕ, Bool, cond, ◌&&◌, ◌||◌, List, ltb, ℤ, pos, ◌-ℤ◌, length}
 use Rattle.std.specs.Int.Signed.{lt_z}
 use Rattle.text.specs.Fields.{fields, field}
@@ -19,7 +19,7 @@ use Rattle.parameters.specs.declared.reading.LineReading.TheVariants as reading
 use Rattle.parameters.specs.FieldValues.{size_or, point_of}
 use Rattle.parameters.specs.Position.{if_fits, placed, yields}
 
--- "`LO` (black), `LW` (white) and `Le` (exclusive-OR): x, y, width, height"; width and height 1 by default
+-- "`LO` (black), `LW` (white) and `LE` (exclusive-OR): x, y, width, height"; width and height 1 by default
 unfoldable pub line_fields : List ℕ → LineFields
 line_fields s =
     record {

@@ -1,4 +1,4 @@
--- 01, "Grammar": `LO`, `LW`, `Le`, `LS`, `X`
+-- 01, "Grammar": `LO`, `LW`, `LE`, `LS`, `X`
 pub mod Draw
 -- inner: corners by axes, as the reader draws them
 pub mod Axes

@@ -10,7 +10,7 @@ use parameters::params::{number_from, reaches, size_from};
 use parameters::position::{Placed, place};
 use parameters::reading::LineReading;
 
-#[derive(Drop)]
+#[derive(Clone, Copy)]
 pub struct LineFields {
     pub at: LabelPosition,
     pub width: i32,
@@ -61,7 +61,7 @@ pub fn parse_epl_line(params: &[u8], line_color: LineColor, reference: LabelPosi
     line_element(fields, line_color, reference)
 }
 
-#[derive(Drop)]
+#[derive(Clone, Copy)]
 pub struct Corners {
     pub first: LabelPosition,
     pub thickness: i32,
@@ -69,7 +69,7 @@ pub struct Corners {
 }
 
 // Corners as they are read, and whether anything stands behind the fourth comma.
-#[derive(Drop)]
+#[derive(Clone, Copy)]
 pub struct CornersRead {
     pub corners: Corners,
     pub seen: bool,
@@ -104,14 +104,14 @@ pub(crate) fn read_corners(s: &[u8]) -> CornersRead
 }
 
 // One axis of two corners: how far they are from each other, and the sign of second less first.
-#[derive(Drop)]
+#[derive(Clone, Copy)]
 pub struct Extent {
     pub size: i32,
     pub rises: bool,
     pub falls: bool,
 }
 
-#[derive(Drop)]
+#[derive(Clone, Copy)]
 pub enum Measured {
     Of(Extent),
     Outside,
@@ -135,7 +135,7 @@ pub(crate) fn extent_of(a: i32, b: i32) -> Measured
 }
 
 // Two corners at a reference: position, sizes, and whether both axes run the same way.
-#[derive(Drop)]
+#[derive(Clone, Copy)]
 pub struct Drawn {
     pub position: LabelPosition,
     pub width: i32,
@@ -144,7 +144,7 @@ pub struct Drawn {
 }
 
 // The position comes first: Outside where it has no 32 bits, else SizeOutside where a size has none.
-#[derive(Drop)]
+#[derive(Clone, Copy)]
 pub enum Cornered {
     At(Drawn),
     Outside,

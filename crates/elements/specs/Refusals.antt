@@ -12,7 +12,7 @@ use Rattle.elements.specs.declared.refusal.Refusal.TheVariants.{RectangleTurned,
 use Rattle.elements.specs.declared.refusal.Refusal.TheVariants.{JoinedTooLong}
 
 abbrev pub number_of : Refusal → ℕ
--- 1 `A`, 2 `B`, 3 `b`, 4 `LO`/`LW`/`Le`, 5 `LS`, 6 `X` with too few fields
+-- 1 `A`, 2 `B`, 3 `b`, 4 `LO`/`LW`/`LE`, 5 `LS`, 6 `X` with too few fields
 number_of TextFields = 1
 number_of BarcodeFields = 2
 number_of Barcode2dFields = 3

@@ -2,7 +2,7 @@
 use crate::refusal::Refusal;
 
 // How many bytes it wrote, from the buffer's start; or why there are none, and the place.
-#[derive(Drop)]
+#[derive(Clone, Copy)]
 pub enum Filled {
     Bytes(usize),
     Refused(Refusal, usize),

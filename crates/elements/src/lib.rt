@@ -2,6 +2,8 @@
 // the answer of a call that fills a buffer.
 // The records stand here and not in a module each: every state of every proof spells out the paths of its types, and
 // check times follow their length.
+#![tactic(auto)]
+
 pub mod filled;
 pub mod plain;
 pub mod refusal;
@@ -9,28 +11,28 @@ pub mod walk_state;
 
 // A position in dots, or a reference point.
 #[repr(C)]
-#[derive(Drop)]
+#[derive(Clone, Copy)]
 pub struct LabelPosition {
     pub x: i32,
     pub y: i32,
 }
 
 // What a print line says: label sets, and copies of each label.
-#[derive(Drop)]
+#[derive(Clone, Copy)]
 pub struct PrintCounts {
     pub sets: i32,
     pub copies: i32,
 }
 
 // Data of an element: where it stands, and how many bytes it has before decoding.
-#[derive(Drop)]
+#[derive(Clone, Copy)]
 pub struct DataSpan {
     pub start: usize,
     pub len: usize,
 }
 
 // Quarter turns.
-#[derive(Drop)]
+#[derive(Clone, Copy)]
 pub enum FieldOrientation {
     Normal,
     Rotated90,
@@ -39,7 +41,7 @@ pub enum FieldOrientation {
 }
 
 // The file is not among the Rust's that came with the scope; its use shows the first two. Xor is ours, for `LE`.
-#[derive(Drop)]
+#[derive(Clone, Copy)]
 pub enum LineColor {
     Black,
     White,
@@ -47,7 +49,7 @@ pub enum LineColor {
 }
 
 // A font's number and the two multipliers, as read: after defaults and least values. Any number is kept.
-#[derive(Drop)]
+#[derive(Clone, Copy)]
 pub struct FontScale {
     pub font: i32,
     pub horizontal: i32,
@@ -55,7 +57,7 @@ pub struct FontScale {
 }
 
 // The size of a text, as two floats, and its rotation.
-#[derive(Drop)]
+#[derive(Clone, Copy)]
 pub struct FontInfo {
     pub height: f64,
     pub width: f64,
@@ -63,7 +65,7 @@ pub struct FontInfo {
 }
 
 // A text (frame 01). Its height and width are those that scale gives.
-#[derive(Drop)]
+#[derive(Clone, Copy)]
 pub struct TextField {
     pub position: LabelPosition,
     pub reverse_print: bool,
@@ -73,7 +75,7 @@ pub struct TextField {
 }
 
 // A box, or a line that is one (frame 02).
-#[derive(Drop)]
+#[derive(Clone, Copy)]
 pub struct GraphicBox {
     pub position: LabelPosition,
     pub width: i32,
@@ -83,7 +85,7 @@ pub struct GraphicBox {
 }
 
 // A diagonal (frame 03). It runs from top left to bottom right where top_to_bottom.
-#[derive(Drop)]
+#[derive(Clone, Copy)]
 pub struct GraphicDiagonalLine {
     pub position: LabelPosition,
     pub width: i32,
@@ -93,7 +95,7 @@ pub struct GraphicDiagonalLine {
 }
 
 // A graphic (frame 04). Its total is the length of its data, which is not decoded.
-#[derive(Drop)]
+#[derive(Clone, Copy)]
 pub struct GraphicField {
     pub position: LabelPosition,
     pub row_bytes: i32,
@@ -101,14 +103,14 @@ pub struct GraphicField {
 }
 
 // Code 128 (frame 05).
-#[derive(Drop)]
+#[derive(Clone, Copy)]
 pub enum BarcodeMode {
     Ucc,
     Automatic,
     Ean,
 }
 
-#[derive(Drop)]
+#[derive(Clone, Copy)]
 pub struct Barcode128 {
     pub orientation: FieldOrientation,
     pub height: i32,
@@ -116,7 +118,7 @@ pub struct Barcode128 {
     pub mode: BarcodeMode,
 }
 
-#[derive(Drop)]
+#[derive(Clone, Copy)]
 pub struct Barcode128WithData {
     pub barcode: Barcode128,
     pub width: i32,
@@ -125,14 +127,14 @@ pub struct Barcode128WithData {
 }
 
 // EAN-13 (frame 06).
-#[derive(Drop)]
+#[derive(Clone, Copy)]
 pub struct BarcodeEan13 {
     pub orientation: FieldOrientation,
     pub height: i32,
     pub line: bool,
 }
 
-#[derive(Drop)]
+#[derive(Clone, Copy)]
 pub struct BarcodeEan13WithData {
     pub barcode: BarcodeEan13,
     pub width: i32,
@@ -141,14 +143,14 @@ pub struct BarcodeEan13WithData {
 }
 
 // EAN-8 (frame 07).
-#[derive(Drop)]
+#[derive(Clone, Copy)]
 pub struct BarcodeEan8 {
     pub orientation: FieldOrientation,
     pub height: i32,
     pub line: bool,
 }
 
-#[derive(Drop)]
+#[derive(Clone, Copy)]
 pub struct BarcodeEan8WithData {
     pub barcode: BarcodeEan8,
     pub width: i32,
@@ -157,14 +159,14 @@ pub struct BarcodeEan8WithData {
 }
 
 // UPC-A (frame 08).
-#[derive(Drop)]
+#[derive(Clone, Copy)]
 pub struct BarcodeUca {
     pub orientation: FieldOrientation,
     pub height: i32,
     pub line: bool,
 }
 
-#[derive(Drop)]
+#[derive(Clone, Copy)]
 pub struct BarcodeUcaWithData {
     pub barcode: BarcodeUca,
     pub width: i32,
@@ -173,7 +175,7 @@ pub struct BarcodeUcaWithData {
 }
 
 // 2 of 5 (frame 09). wide is the wide bar as read, 0 and below too; width_ratio is wide to narrow, at least 2.0.
-#[derive(Drop)]
+#[derive(Clone, Copy)]
 pub struct Barcode2of5 {
     pub orientation: FieldOrientation,
     pub height: i32,
@@ -181,7 +183,7 @@ pub struct Barcode2of5 {
     pub check_digit: bool,
 }
 
-#[derive(Drop)]
+#[derive(Clone, Copy)]
 pub struct Barcode2of5WithData {
     pub barcode: Barcode2of5,
     pub width: i32,
@@ -192,7 +194,7 @@ pub struct Barcode2of5WithData {
 }
 
 // Code 39 (frame 0a), with wide and width_ratio as 2 of 5 has them.
-#[derive(Drop)]
+#[derive(Clone, Copy)]
 pub struct Barcode39 {
     pub orientation: FieldOrientation,
     pub height: i32,
@@ -200,7 +202,7 @@ pub struct Barcode39 {
     pub check_digit: bool,
 }
 
-#[derive(Drop)]
+#[derive(Clone, Copy)]
 pub struct Barcode39WithData {
     pub barcode: Barcode39,
     pub width: i32,
@@ -211,7 +213,7 @@ pub struct Barcode39WithData {
 }
 
 // PDF417 (frame 0b).
-#[derive(Drop)]
+#[derive(Clone, Copy)]
 pub struct BarcodePdf417 {
     pub orientation: FieldOrientation,
     pub row_height: i32,
@@ -246,7 +248,7 @@ impl BarcodePdf417 {
     pub const ROTATION: i32 = 0;
 }
 
-#[derive(Drop)]
+#[derive(Clone, Copy)]
 pub struct BarcodePdf417WithData {
     pub barcode: BarcodePdf417,
     pub position: LabelPosition,
@@ -254,7 +256,7 @@ pub struct BarcodePdf417WithData {
 }
 
 // Aztec (frame 0c).
-#[derive(Drop)]
+#[derive(Clone, Copy)]
 pub struct BarcodeAztec {
     pub magnification: i32,
     pub size: i32,
@@ -270,7 +272,7 @@ impl BarcodeAztec {
     pub const SIZE: i32 = 0;
 }
 
-#[derive(Drop)]
+#[derive(Clone, Copy)]
 pub struct BarcodeAztecWithData {
     pub barcode: BarcodeAztec,
     pub position: LabelPosition,
@@ -278,7 +280,7 @@ pub struct BarcodeAztecWithData {
 }
 
 // Data Matrix (frame 0d). height is the module's.
-#[derive(Drop)]
+#[derive(Clone, Copy)]
 pub struct BarcodeDatamatrix {
     pub height: i32,
     pub columns: i32,
@@ -293,7 +295,7 @@ impl BarcodeDatamatrix {
     pub const HEIGHT_MAX: i32 = 40;
 }
 
-#[derive(Drop)]
+#[derive(Clone, Copy)]
 pub struct BarcodeDatamatrixWithData {
     pub barcode: BarcodeDatamatrix,
     pub position: LabelPosition,
@@ -301,7 +303,7 @@ pub struct BarcodeDatamatrixWithData {
 }
 
 // QR (frame 0e).
-#[derive(Drop)]
+#[derive(Clone, Copy)]
 pub enum QrErrorCorrectionLevel {
     H,
     Q,
@@ -309,7 +311,7 @@ pub enum QrErrorCorrectionLevel {
     L,
 }
 
-#[derive(Drop)]
+#[derive(Clone, Copy)]
 pub struct BarcodeQr {
     pub magnification: i32,
 }
@@ -324,7 +326,7 @@ impl BarcodeQr {
     pub const DATA_MAX: usize = 9999;
 }
 
-#[derive(Drop)]
+#[derive(Clone, Copy)]
 pub struct BarcodeQrWithData {
     pub barcode: BarcodeQr,
     pub error_correction: QrErrorCorrectionLevel,
@@ -333,12 +335,12 @@ pub struct BarcodeQrWithData {
 }
 
 // MaxiCode (frame 0f).
-#[derive(Drop)]
+#[derive(Clone, Copy)]
 pub struct Maxicode {
     pub mode: i32,
 }
 
-#[derive(Drop)]
+#[derive(Clone, Copy)]
 pub struct MaxicodeWithData {
     pub code: Maxicode,
     pub position: LabelPosition,
@@ -346,14 +348,14 @@ pub struct MaxicodeWithData {
 }
 
 // UPC-E (frame 10).
-#[derive(Drop)]
+#[derive(Clone, Copy)]
 pub struct BarcodeUcpe {
     pub orientation: FieldOrientation,
     pub height: i32,
     pub line: bool,
 }
 
-#[derive(Drop)]
+#[derive(Clone, Copy)]
 pub struct BarcodeUcpeWithData {
     pub barcode: BarcodeUcpe,
     pub width: i32,
@@ -362,7 +364,7 @@ pub struct BarcodeUcpeWithData {
 }
 
 // What a command draws, by value: the drawable cases of the Rust's that EPL yields.
-#[derive(Drop)]
+#[derive(Clone, Copy)]
 pub enum LabelElement {
     Text(TextField),
     GraphicBox(GraphicBox),

@@ -10,7 +10,7 @@ use crate::{
 };
 
 // Width, height and thickness of a box or a diagonal.
-#[derive(Drop)]
+#[derive(Clone, Copy)]
 pub struct Extent {
     pub width: i32,
     pub height: i32,
@@ -18,7 +18,7 @@ pub struct Extent {
 }
 
 // Rotation, narrow bar, height and line of a bar code with bars.
-#[derive(Drop)]
+#[derive(Clone, Copy)]
 pub struct Bars {
     pub orientation: FieldOrientation,
     pub narrow: i32,
@@ -27,7 +27,7 @@ pub struct Bars {
 }
 
 // What a frame has between the position and the data, a case for each form in which 01 lists it.
-#[derive(Drop)]
+#[derive(Clone, Copy)]
 pub enum Fields {
     // The reverse flag, the font's number and multipliers, and the font.
     Text(bool, FontScale, FontInfo),
@@ -48,7 +48,7 @@ pub enum Fields {
 }
 
 // The data of an element: none, a payload with its total before it, or bytes that are decoded.
-#[derive(Drop)]
+#[derive(Clone, Copy)]
 pub enum Data {
     NoData,
     Payload(DataSpan),
@@ -56,7 +56,7 @@ pub enum Data {
 }
 
 // An element in its plain form: the kind of its frame, and what every frame has.
-#[derive(Drop)]
+#[derive(Clone, Copy)]
 pub struct Plain {
     pub kind: u8,
     pub position: LabelPosition,

@@ -5,7 +5,7 @@ ghost use Rattle.elements.specs.Refusals.{number_of};
 // "inputs up to 16,777,216 bytes": a longer one is InputTooLong.
 pub const LONGEST: usize = 16777216;
 
-#[derive(Drop)]
+#[derive(Clone, Copy)]
 pub enum Refusal {
     // The author of the label: too few fields,
     TextFields,

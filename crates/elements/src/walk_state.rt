@@ -9,7 +9,7 @@ use crate::LabelPosition;
 // compilers copy the first sixteen bytes in one move, which waits for all that was just stored there, and the next step
 // waits for the place alone.
 #[repr(C)]
-#[derive(Drop)]
+#[derive(Clone, Copy)]
 pub struct WalkState {
     pub reference: LabelPosition,
     pub pending: usize,

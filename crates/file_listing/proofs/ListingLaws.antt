@@ -3,8 +3,6 @@
 -- is in ListingRoomLaws. Assumes nothing.
 use mathlib.Core.Path.{◌≡◌, refl, sym, ap, ◌∙◌}
 use mathlib.Core.List.{List, [], ◌∷◌, ◌++◌}
-use types.Run.{OneOf, miss}
-use denote.Enum.Declared.{tag_of, declared}
 use Prim.Native.Nat.{ℕ, zero, suc, ◌+◌, ◌*◌, ◌<◌, ◌≤◌, min}
 use native.Mathlib.Nat.{min-eq_right, min-le_left}
 use native.Mathlib.Omega.{arith}
@@ -24,7 +22,6 @@ use Rattle.elements.specs.declared.LabelElement.{LabelElement}
 use Rattle.elements.specs.declared.walk_state.WalkState.{WalkState}
 use Rattle.walk.specs.declared.answer.Answer.{Answer}
 use Rattle.walk.specs.declared.answer.Answer.TheVariants.{Element, Clear, Print, End, Refused}
-use Rattle.walk.specs.contracts.answer.Answer.{enum}
 use Rattle.walk.proofs.WalkLaws.{on_step, begins}
 use Rattle.file_listing.specs.Listing.{lines_of, label_lines, pending_line, listing_of, pending_at, front_frames, text_of, text_from}
 
@@ -79,8 +76,9 @@ module _ (s : List ℕ) (w : WalkState) (r q : Answer) (e : answer_of r ≡ step
         ∙ ap (text_of s (front_frames s start)) after_by
 
 -- an answer that is no element begins with none
-pub lead_none : (s : List ℕ) (q : Answer) → OneOf (1 ∷ 2 ∷ 3 ∷ 4 ∷ []) (tag_of (declared enum) q) → lines_of (lead epl (List ℕ) frame_of s (on_step s q)) ≡ []
-lead_none s (Element v x) h = absurd (miss (1 ∷ 2 ∷ 3 ∷ 4 ∷ []) 0 tt h)
+pub lead_none : (s : List ℕ) (q : Answer) → ((w : WalkState) (x : LabelElement) → q ≡ Element w x → ⊥)
+    → lines_of (lead epl (List ℕ) frame_of s (on_step s q)) ≡ []
+lead_none s (Element v x) h = absurd (h v x refl)
 lead_none s (Clear v) h = refl
 lead_none s (Print v n) h = refl
 lead_none s (End v) h = refl

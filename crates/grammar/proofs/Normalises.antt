@@ -16,7 +16,7 @@ use Rattle.command_letters.specs.Command.{is_reference, is_print, command_of}
 use Rattle.commands.specs.Line.{lead_of, read_line}
 use Rattle.graphics.specs.Block.{opens_gw}
 use Rattle.walk_theory.specs.Labels.{Run, goes, and_then, effect, run}
-use Rattle.walk_theory.specs.Normal.{Solid, none_left, and_then_lem, Normalises}
+use Rattle.walk_theory.specs.Normal.{Solid, none_left, and_solid, Normalises}
 use Rattle.walk_theory.proofs.RunLaws.{follow, before_nil}
 use Rattle.grammar.specs.Units.{EplUnit, block, line, last, bytes, all_nil, Command, Stands}
 use Rattle.grammar.specs.WellFormed.{well_formed}
@@ -36,10 +36,10 @@ empty_command = record { one_line = all_nil; no_graphic = opens_not [] refl; is_
 
 kept_solid : (t : List ℕ) → Command t → Solid epl (kept t)
 kept_solid [] c = none_left
-kept_solid (b ∷ t) c = and_then_lem (λ rest. c) none_left
+kept_solid (b ∷ t) c = and_solid (λ rest. c) none_left
 
 normal_solid : (u : EplUnit) (rest : List ℕ) → Stands u rest → Solid epl (normal u)
-normal_solid (block bs h p) rest st = and_then_lem (λ rest'. st) (and_then_lem (λ rest'. empty_command) none_left)
+normal_solid (block bs h p) rest st = and_solid (λ rest'. st) (and_solid (λ rest'. empty_command) none_left)
 normal_solid (line t) rest st = kept_solid (trim_ascii t) (command_trimmed t st)
 normal_solid (last t) rest st = kept_solid (trim_ascii t) (command_trimmed t st.0)
 

@@ -87,7 +87,7 @@ shaped_yields k x y r f h =
     (λ q. simp (p, q) tt))
     (λ p. simp p tt)
 
--- ---- `LO`, `LW`, `Le`, `LS`, `X`
+-- ---- `LO`, `LW`, `LE`, `LS`, `X`
 shaped_line : (s : List ℕ) (c : LineColor) (r : LabelPosition) → Shaped 0x02 (sums (number (field s 0)) (number (field s 1)) r) (line_reading s c r)
 unfolding line_reading line_element line_fields point_of
 shaped_line s c r =

@@ -79,7 +79,7 @@ meets_count m k y z f n ds x h =
     (λ e. simp (e, le-ltb m k (leb-true k m e)) h)
     (λ e. simp (e, lt-ltb m k (leb-false k m e)) (n, refl, refl))
 
--- `LO`, `LW`, `Le`, `LS`, `X`
+-- `LO`, `LW`, `LE`, `LS`, `X`
 
 -- k fields at least, or the number f
 abbrev MeetsDrawn : ℕ → ℕ → List ℕ → LineReading → Type 0

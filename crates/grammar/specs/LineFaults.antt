@@ -37,7 +37,7 @@ matrix_types = ascii "A" ∷ ascii "D" ∷ ascii "M" ∷ ascii "P" ∷ ascii "Q"
 
 -- the faults of a line t whose blanks are off: "Within a line: count, type, data size"
 pub data LineFault (t : List ℕ) : ℕ → Type 0 where
-  -- "1 `A`, 2 `B`, 3 `b`, 4 `LO`/`LW`/`Le`, 5 `LS`, 6 `X` with too few fields"
+  -- "1 `A`, 2 `B`, 3 `b`, 4 `LO`/`LW`/`LE`, 5 `LS`, 6 `X` with too few fields"
   few_a : SpellsRead Text t → count (params_of t) < 7 → LineFault t 1
   few_b : SpellsRead Barcode t → count (params_of t) < 8 → LineFault t 2
   few_2d : SpellsRead Barcode2d t → count (params_of t) < 3 → LineFault t 3

@@ -80,7 +80,7 @@ corner_numbers s r = between (number (field s 0)) (number (field s 1)) (number (
 abbrev pub numbers_as : Command → List ℕ → LabelPosition → List ℤ
 -- "Fewer than two quotes, or no data: nothing is read"
 numbers_as (Data c) t r = cond (is_read t) (data_numbers c (params_of t) r) []
--- "`LO` (black), `LW` (white) and `Le` (exclusive-OR): x, y, .."
+-- "`LO` (black), `LW` (white) and `LE` (exclusive-OR): x, y, .."
 numbers_as (Line c) t r = sums (number (field (drop 2 t) 0)) (number (field (drop 2 t) 1)) r
 numbers_as Diagonal t r = corner_numbers (drop 2 t) r
 numbers_as Box t r = corner_numbers (drop 1 t) r

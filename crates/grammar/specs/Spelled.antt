@@ -26,7 +26,7 @@ pub data Letters : Command → List ℕ → Type 0 where
   is_a : {t : List ℕ} → Letters (Data Text) (spelt "A" t)
   is_b : {t : List ℕ} → Letters (Data Barcode) (spelt "B" t)
   is_2d : {t : List ℕ} → Letters (Data Barcode2d) (spelt "b" t)
-  -- "`LO`, `LW`, `Le` ..; `LS`, `X`"; "`LO` (black), `LW` (white) and `Le` (exclusive-OR)"
+  -- "`LO`, `LW`, `LE` ..; `LS`, `X`"; "`LO` (black), `LW` (white) and `LE` (exclusive-OR)"
   is_lo : {t : List ℕ} → Letters (Line Black) (spelt "LO" t)
   is_lw : {t : List ℕ} → Letters (Line White) (spelt "LW" t)
   is_le : {t : List ℕ} → Letters (Line Xor) (spelt "LE" t)

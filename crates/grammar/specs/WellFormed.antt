@@ -47,7 +47,7 @@ abbrev pub counted : Command → List ℕ → Bool
 counted Clear t = true
 counted Reference t = true
 counted (Data c) t = data_counted c (params_of t)
--- "`LO`, `LW`, `Le` at least 4 fields; `LS`, `X` at least 5; no commas dropped"
+-- "`LO`, `LW`, `LE` at least 4 fields; `LS`, `X` at least 5; no commas dropped"
 counted (Line c) t = at_least 4 (drop 2 t)
 counted Diagonal t = at_least 5 (drop 2 t)
 counted Box t = at_least 5 (drop 1 t)
@@ -93,7 +93,7 @@ well_formed_as c t = asks_nothing c t || (counted c t && typed c t && sized c t)
 unfoldable pub well_formed : List ℕ → Bool
 well_formed t = well_formed_as (command_of t) t
 
--- "1 `A`, 2 `B`, 3 `b`, 4 `LO`/`LW`/`Le`, 5 `LS`, 6 `X` with too few fields"
+-- "1 `A`, 2 `B`, 3 `b`, 4 `LO`/`LW`/`LE`, 5 `LS`, 6 `X` with too few fields"
 abbrev pub count_fault : Command → ℕ
 count_fault (Data Text) = 1
 count_fault (Data Barcode) = 2

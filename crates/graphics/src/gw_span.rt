@@ -73,7 +73,7 @@ pub(crate) fn header_field_len(t: &[u8]) -> usize
 
 // A header field: its number, or 0, and whether a comma closes it, before an LF or the end. Where one does: the place
 // behind the comma.
-#[derive(Drop)]
+#[derive(Clone, Copy)]
 pub struct HeaderField {
     pub closed: bool,
     pub value: i32,
@@ -106,14 +106,14 @@ fn header_from(t: &[u8], at: usize) -> HeaderField
 }
 
 // x, y, width in bytes, lines.
-#[derive(Drop)]
+#[derive(Clone, Copy)]
 pub struct GwNumbers {
     pub at: LabelPosition,
     pub width_bytes: i32,
     pub lines: i32,
 }
 
-#[derive(Drop)]
+#[derive(Clone, Copy)]
 pub struct GwSpan {
     pub at: LabelPosition,
     pub width_bytes: i32,
@@ -122,7 +122,7 @@ pub struct GwSpan {
 }
 
 // What stands first: no graphic, a fault of one, or a graphic.
-#[derive(Drop)]
+#[derive(Clone, Copy)]
 pub enum Graphic {
     NoGraphic,
     Refused(Refusal),
@@ -204,7 +204,7 @@ pub fn gw_span(rest: &[u8]) -> Graphic
 }
 
 // What a block says: its bytes with its element.
-#[derive(Drop)]
+#[derive(Clone, Copy)]
 pub enum Block {
     NoBlock,
     Refused(Refusal),

@@ -1,2 +1,4 @@
 // `GW`: graphic blocks.
+#![tactic(auto)]
+
 pub mod gw_span;

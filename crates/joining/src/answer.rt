@@ -8,7 +8,7 @@ use elements::refusal::Refusal;
 // number 0: the joined text is written, place is its length. Else a refusal: its number and its place, and file says
 // which file was refused, 1 or 2. file is 0 where neither was.
 #[repr(C)]
-#[derive(Drop)]
+#[derive(Clone, Copy)]
 pub struct Joined {
     pub number: u32,
     pub file: u32,

@@ -2,8 +2,6 @@
 pub mod TrimLaws
 pub mod GlanceLaws
 pub mod PastLaws
--- an entry, a cursor and what an index answers, as data that is lent and passed
-pub mod Elems
 -- the entries that the loop makes are the index's; what is due to a call that fills a list
 pub mod EntryLaws
 pub mod PlanLaws

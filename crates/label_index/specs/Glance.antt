@@ -21,7 +21,7 @@ untold = record { size = 0; drawn = 0 }
 abbrev pub has_quotes : ℕ → Bool
 has_quotes b = eqb b (letter "A") || eqb b (letter "B") || eqb b (letter "b")
 
--- the second letter of `LO`, `LW`, `Le`, `LS`
+-- the second letter of `LO`, `LW`, `LE`, `LS`
 abbrev pub is_line_letter : ℕ → Bool
 is_line_letter c = eqb c (letter "O") || eqb c (letter "W") || eqb c (letter "E") || eqb c (letter "S")
 

@@ -1,5 +1,5 @@
-// The entries of a file's labels, in print order. The borrow checker covers no function over a slice of structs: `fill`
-// and `entry_or` are instances of laws of the crate `lent_lists`.
+// The entries of a file's labels, in print order. What a loop that fills a list has to know of lists is in the crate
+// `lent_lists`.
 ghost use Rattle.std.specs.Prelude.{◌≡◌, ◌++◌, ◌≤◌, ◌<◌, length, drop, get_or};
 ghost use Rattle.lent_lists.specs.Filled.{made};
 ghost use Rattle.label_index.specs.Entries.{next_of, WithinCursor, no_entry};
@@ -13,7 +13,7 @@ use walk::step::answer_from;
 // Where a label stands in the file: from just behind the print line before it, or 0, to just behind its own; how many
 // elements it has; the reference point at its first place.
 #[repr(C)]
-#[derive(Drop)]
+#[derive(Clone, Copy)]
 pub struct LabelEntry {
     pub first: usize,
     pub last: usize,
@@ -22,7 +22,7 @@ pub struct LabelEntry {
 }
 
 // The entry made last, and the reference behind its print line.
-#[derive(Drop)]
+#[derive(Clone, Copy)]
 pub struct Cursor {
     pub entry: LabelEntry,
     pub reference: LabelPosition,

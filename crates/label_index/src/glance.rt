@@ -12,7 +12,7 @@ use elements::walk_state::WalkState;
 use numbers::blank::trim_end;
 
 // How long a line is, with its LF, and how many elements it draws. Size 0: it is not told.
-#[derive(Drop)]
+#[derive(Clone, Copy)]
 pub(crate) struct Seen {
     pub size: usize,
     pub drawn: usize,

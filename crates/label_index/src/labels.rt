@@ -12,7 +12,7 @@ use walk::step::step;
 
 // What a call that fills a list of entries answers: how many labels there are; or why the list is as it came, and the
 // place.
-#[derive(Drop)]
+#[derive(Clone, Copy)]
 pub enum Indexed {
     Labels(usize),
     Refused(Refusal, usize),
@@ -47,7 +47,7 @@ fn count_labels(input: &[u8]) -> Indexed
 }
 
 // What is to be done for a list with room for so many entries: nothing where it is too short, or the file is refused.
-#[derive(Drop)]
+#[derive(Clone, Copy)]
 pub struct Todo {
     pub answer: Indexed,
     pub todo: usize,

@@ -14,7 +14,7 @@ use walk::step::step;
 
 // The first label of a walk: the state that its elements begin at, what its print carries, and how many bytes its lines
 // have; or a refusal and its place.
-#[derive(Drop)]
+#[derive(Clone, Copy)]
 pub enum Found {
     Label(WalkState, Printed, usize),
     NoLabel(Refusal, usize),

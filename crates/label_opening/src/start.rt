@@ -7,7 +7,7 @@ use elements::walk_state::WalkState;
 use label_index::entry::LabelEntry;
 
 // The state that it starts at, and the place that the input is cut at; or a refusal and its place.
-#[derive(Drop)]
+#[derive(Clone, Copy)]
 pub enum Start {
     At(WalkState, usize),
     Denied(Refusal, usize),

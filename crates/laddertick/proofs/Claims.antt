@@ -91,7 +91,7 @@ use Rattle.laddertick.proofs.WalkedLaws.{walked, one_walked, ends, answered_is}
 use Rattle.laddertick.proofs.ContractsLaws.{step_hands_back, list_keeps, normalise_keeps, strict_list_keeps, long_step, long_list, long_normalise, long_check, long_strict_list, outside, end_keeps, ended_again, data_inside, denies}
 use Rattle.laddertick.proofs.ContractsLaws as calls
 use Rattle.laddertick.proofs.DecodingLaws.{decode_keeps, long_decode, decoding}
-use Rattle.laddertick.proofs.LibraryLaws.{library}
+use Rattle.laddertick.proofs.LibraryLaws.{library, decoder}
 use Rattle.laddertick.proofs.ObjectedLaws.{objected_told}
 use Rattle.laddertick.proofs.IndexLaws as index_laws
 use Rattle.laddertick.proofs.ReplacedLaws.{replaces}
@@ -104,8 +104,8 @@ use Rattle.laddertick.proofs.Proved.{proved}
 use Rattle.laddertick.proofs.Starred.{starred}
 use Rattle.laddertick.proofs.Distinct.{distinct}
 use Rattle.laddertick.proofs.Profiled.{profiled}
-use Rattle.laddertick.proofs.Indexed as tabled
-use Rattle.laddertick.proofs.Joined.{joined}
+use Rattle.laddertick.proofs.IndexedRows as tabled
+use Rattle.laddertick.proofs.JoinedRows.{joined}
 use Rattle.laddertick.proofs.Changed.{changed}
 use Rattle.laddertick.proofs.Lying as laid
 use Rattle.dots.proofs.LengthLaws.{to300_near, to300_nearest, nearest_to300, to300_order, to300_range}
@@ -517,4 +517,4 @@ claims library = record {
 }
 
 pub theorem : Theorem
-theorem = record { proved = proved; library = library; claims = claims }
+theorem = record { proved = proved; library = library; decoder = decoder; claims = claims }

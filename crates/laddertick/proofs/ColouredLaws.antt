@@ -1,4 +1,4 @@
--- `Le` is read as `LO` is, with colour flag 2: both are `line_reading` of what stands behind the letters.
+-- `LE` is read as `LO` is, with colour flag 2: both are `line_reading` of what stands behind the letters.
 -- Assumes nothing.
 use mathlib.Core.Path.{◌≡◌, refl}
 use mathlib.Core.Bool.{Bool, true, false, cond}

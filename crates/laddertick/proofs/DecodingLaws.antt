@@ -15,7 +15,7 @@ use Rattle.elements.specs.Plain.{plain_of}
 use Rattle.elements.proofs.GivenLaws.{within_long, within_short}
 use Rattle.frame_bytes.specs.Frame.{head, field_bytes, decoded, frame_of}
 use Rattle.decoding.specs.Decoding.{due_of}
-use Rattle.laddertick.specs.HostContracts.{Library, Denies, Gives}
+use Rattle.laddertick.specs.HostContracts.{Library, Decoder, Denies, Gives}
 use Rattle.laddertick.specs.Spanned.{HasText, span_of}
 use Rattle.laddertick.specs.Claims.{Decoding}
 use Rattle.laddertick.proofs.ContractsLaws.{keeps, denies, gives}
@@ -44,17 +44,17 @@ ends_with s (kind.GraphicBox e) h = absurd (let z : ◌≡◌ {A = ℕ} 0 1 = cc
 ends_with s (kind.DiagonalLine e) h = absurd (let z : ◌≡◌ {A = ℕ} 0 1 = cc in omega arith)
 ends_with s (kind.GraphicField e) h = absurd (let z : ◌≡◌ {A = ℕ} 0 1 = cc in omega arith)
 
-module _ (library : Library) where
-  pub decode_keeps : (s : List ℕ) (d : DataSpan) (l : List ℕ) (k : Refusal) (p : ℕ) → (library.decode s d l).answer ≡ filled.Refused k p → (library.decode s d l).buffer ≡ l
-  decode_keeps s d l k p h = keeps (due_of s d) l (library.decode s d l) k p h (library.decodes s d l)
+module _ (library : Library) (decoder : Decoder) where
+  pub decode_keeps : (s : List ℕ) (d : DataSpan) (l : List ℕ) (k : Refusal) (p : ℕ) → (decoder.decode s d l).answer ≡ filled.Refused k p → (decoder.decode s d l).buffer ≡ l
+  decode_keeps s d l k p h = keeps (due_of s d) l (decoder.decode s d l) k p h (decoder.decodes s d l)
 
-  pub long_decode : (s : List ℕ) (d : DataSpan) (l : List ℕ) → longest < length s → Denies 14 0 l (library.decode s d l)
-  long_decode s d l h = denies (due_of s d) l (library.decode s d l) (within_long longest s _ h) (library.decodes s d l)
+  pub long_decode : (s : List ℕ) (d : DataSpan) (l : List ℕ) → longest < length s → Denies 14 0 l (decoder.decode s d l)
+  long_decode s d l h = denies (due_of s d) l (decoder.decode s d l) (within_long longest s _ h) (decoder.decodes s d l)
 
-  data_given : (s : List ℕ) → length s ≤ longest → (d : DataSpan) (l : List ℕ) → Gives (decode (take d.len (drop d.start s))) l (library.decode s d l)
-  data_given s short d l = gives (due_of s d) l (library.decode s d l) _ (within_short longest s _ short) (library.decodes s d l)
+  data_given : (s : List ℕ) → length s ≤ longest → (d : DataSpan) (l : List ℕ) → Gives (decode (take d.len (drop d.start s))) l (decoder.decode s d l)
+  data_given s short d l = gives (due_of s d) l (decoder.decode s d l) _ (within_short longest s _ short) (decoder.decodes s d l)
 
-  pub decoding : (s : List ℕ) → length s ≤ longest → Decoding library s
+  pub decoding : (s : List ℕ) → length s ≤ longest → Decoding library decoder s
   decoding s short = record {
     gives = λ start len l. data_given s short (record { start = start; len = len }) l;
     frame = λ w w' e h t. (_, front e, ends_with s e t, λ l. data_given s short (span_of e) l);

@@ -2,13 +2,13 @@
 pub mod Starred
 pub mod Distinct
 pub mod Profiled
-pub mod Indexed
-pub mod Joined
+pub mod IndexedRows
+pub mod JoinedRows
 pub mod Changed
 pub mod Lying
 pub mod Converted
 pub mod Written
--- `Le` beside `LO`
+-- `LE` beside `LO`
 pub mod ColouredLaws
 -- data lies inside; sizes and ratios are those of an element's fields
 pub mod StepInsideLaws

@@ -74,7 +74,7 @@ use Rattle.spellings.specs.Writable.{writable}
 use Rattle.structs_read.specs.Unflat.{element_of, standing}
 use Rattle.writing_element.specs.Plain.{plain_due}
 use Rattle.writing_label.specs.Label.{plain_bad, plain_label_due, at300, plain_label_due300}
-use Rattle.laddertick.specs.HostContracts.{Library, Filling, Finding, Entering}
+use Rattle.laddertick.specs.HostContracts.{Library, Decoder, Filling, Finding, Entering}
 use Rattle.laddertick.proofs.ContractsLaws.{Line, step_outside, step_inside}
 
 -- ---- a number of a refusal
@@ -347,7 +347,6 @@ library = record {
   step = λ s w. (steps_by s w).0;
   list = λ s l. (lists_by s l).0;
   normalise = λ s l. (normalises_by s l).0;
-  decode = λ s d l. (decodes_by s d l).0;
   check = checked_of;
   strict_list = λ s l. (strictly_by s l).0;
   index = λ s l. (indexes_by s l).0;
@@ -363,7 +362,6 @@ library = record {
   steps = λ s w. (steps_by s w).1;
   lists = λ s l. (lists_by s l).1;
   normalises = λ s l. (normalises_by s l).1;
-  decodes = λ s d l. (decodes_by s d l).1;
   checks = λ s. refl;
   strictly_lists = λ s l. (strictly_by s l).1;
   indexes = λ s l. (indexes_by s l).1;
@@ -379,3 +377,6 @@ library = record {
   writes_label = λ s xs q l. (fills (plain_label_due s xs q) (label_known s xs q) l).1;
   writes_label_300 = λ s xs q l. (fills (plain_label_due300 s xs q) (label_known s (map at300 xs) q) l).1;
 }
+
+pub decoder : Decoder
+decoder = record { decode = λ s d l. (decodes_by s d l).0; decodes = λ s d l. (decodes_by s d l).1 }

@@ -32,7 +32,7 @@ use Rattle.readback.proofs.DueLaws.{due_reread}
 use Rattle.writing_element.specs.Plain.{plain_due}
 use Rattle.writing_label.specs.Label.{plain_label_due, at300}
 use Rattle.writing_label.proofs.LabelLaws.{fine, AllFine, AllSized, Bad, fine_flat, plain_label, label_fine, label_bad, label_parts}
-use Rattle.laddertick.specs.Writing.{AllYieldable, no_more_yieldable, and_yieldable, NoLabel, no_element_lem, too_many, negative_sets, negative_copies, IsLabel, NoneYieldable, In32, Typed, AllTyped, AllStructs, FirstNone, same300, resized}
+use Rattle.laddertick.specs.Writing.{AllYieldable, no_more_yieldable, and_yieldable, NoLabel, without_element, too_many, negative_sets, negative_copies, IsLabel, NoneYieldable, In32, Typed, AllTyped, AllStructs, FirstNone, same300, resized}
 
 -- ---- a struct's numbers are its element's
 fits_flat : (e : LabelElement) → Typed (flat_element e) → Fits e
@@ -102,7 +102,7 @@ is_label n q h =
     (not_below q.sets h.sets.0 h.sets.1) (not_below q.copies h.copies.0 h.copies.1)
 
 is_no_label : (n : ℕ) (q : PrintCounts) → NoLabel n q → no_label n q ≡ true
-is_no_label n q (no_element_lem e) =
+is_no_label n q (without_element e) =
     or_first (eqb n 0 || ltb longest n || lt_z q.sets (pos 0)) (lt_z q.copies (pos 0))
     (or_first (eqb n 0 || ltb longest n) (lt_z q.sets (pos 0)) (or_first (eqb n 0) (ltb longest n) (eq-eqb n 0 e)))
 is_no_label n q (too_many h) =
@@ -121,7 +121,7 @@ sign (negsuc k) = inr (k, refl)
 pub label_cases : (n : ℕ) (q : PrintCounts) → IsLabel n q ⊎ NoLabel n q
 label_cases n q =
     test (eqb n 0)
-    (λ h. inr (no_element_lem (eqb-true n 0 h)))
+    (λ h. inr (without_element (eqb-true n 0 h)))
     (λ h. test (ltb longest n)
     (λ k. inr (too_many (ltb-true longest n k)))
     (λ k. by_sets (some_number n (eqb-false n 0 h)) (ltb-false longest n k) (sign q.sets) (sign q.copies)))

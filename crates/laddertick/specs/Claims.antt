@@ -83,7 +83,7 @@ use Rattle.dots_label.specs.Conversion.{Drawn}
 use Rattle.dots_label.specs.Promise.{Denied, Resolved}
 use Rattle.laddertick.specs.Framed.{Framed}
 use Rattle.laddertick.specs.Converted as converted
-use Rattle.laddertick.specs.HostContracts.{Library, Filling, Denies, Gives}
+use Rattle.laddertick.specs.HostContracts.{Library, Decoder, Filling, Denies, Gives}
 use Rattle.laddertick.specs.HostContracts.{DeniesList, GivesEntries, JoinDenies, JoinGives}
 use Rattle.laddertick.specs.HostContracts.{DeniesNumbers, GivesNumbers}
 use Rattle.laddertick.specs.Proved.{Proved}
@@ -140,8 +140,8 @@ pub record Demand1 (library : Library) : Type 0 where
   pub open_keeps : (s : List ℕ) (es : List LabelEntry) (i : ℕ) (l : List ℕ) (k : Refusal) (p : ℕ)
       → (library.open_label s es i l).answer ≡ filled.Refused k p → (library.open_label s es i l).buffer ≡ l
   pub join_keeps : (s t l : List ℕ) → ((library.join s t l).answer.number ≡ 0 → ⊥) → (library.join s t l).buffer ≡ l
-  pub decode_keeps : (s : List ℕ) (d : DataSpan) (l : List ℕ) (k : Refusal) (p : ℕ)
-      → (library.decode s d l).answer ≡ filled.Refused k p → (library.decode s d l).buffer ≡ l
+  pub decode_keeps : (decoder : Decoder) (s : List ℕ) (d : DataSpan) (l : List ℕ) (k : Refusal) (p : ℕ)
+      → (decoder.decode s d l).answer ≡ filled.Refused k p → (decoder.decode s d l).buffer ≡ l
   pub write_keeps : (s : List ℕ) (e : LabelElement) (l : List ℕ) (k : Refusal) (p : ℕ)
       → (library.write s e l).answer ≡ filled.Refused k p → (library.write s e l).buffer ≡ l
   pub write_plain_keeps : (s : List ℕ) (x : struct.Element) (l : List ℕ) (k : Refusal) (p : ℕ)
@@ -158,8 +158,8 @@ pub record Demand1 (library : Library) : Type 0 where
   pub long_check : (s : List ℕ) → longest < length s
       → library.check s ≡ record { number = 14; field = 0; held = 0; place = 0 }
   pub long_strict_list : (s l : List ℕ) → longest < length s → Denies 14 0 l (library.strict_list s l)
-  pub long_decode : (s : List ℕ) (d : DataSpan) (l : List ℕ) → longest < length s
-      → Denies 14 0 l (library.decode s d l)
+  pub long_decode : (decoder : Decoder) (s : List ℕ) (d : DataSpan) (l : List ℕ) → longest < length s
+      → Denies 14 0 l (decoder.decode s d l)
   pub to_300_keeps : (s : List ℕ) (es : List LabelEntry) (i : ℕ) (l : List Element300)
       → ((library.to_300 s es i l).answer.number ≡ 0 → ⊥) → (library.to_300 s es i l).list ≡ l
   pub long_to_300 : (s : List ℕ) (es : List LabelEntry) (i : ℕ) (l : List Element300) → longest < length s
@@ -229,7 +229,7 @@ pub record Demand2 : Type 0 where
       → (n : Refusal) × (read_line t r ≡ reading.Refused n) × (number_of n ≡ fault_of (trim t))
   pub is_well_formed : (t : List ℕ) (r : LabelPosition) (n : Refusal) → well_formed (trim t) ≡ true
       → read_line t r ≡ reading.Refused n → (n ≡ OutOfRange) ⊎ (n ≡ SizeOutside)
-  -- "`Le` is read as `LO` is, with colour flag 2", whatever blanks stand around either
+  -- "`LE` is read as `LO` is, with colour flag 2", whatever blanks stand around either
   pub exclusive_or : (t u v : List ℕ) (r : LabelPosition) → trim t ≡ spelt "LO" v → trim u ≡ spelt "LE" v
       → Coloured 2 (read_line t r) (read_line u r)
   -- "Unicode blanks (White_Space: ..)": trimming bytes takes the code points of 01's list off both ends of the decoded
@@ -530,15 +530,15 @@ pub record Flat : Type 0 where
   pub zeroed : (e : LabelElement) → flat_element e ≡ of_its_kind (flat_element e)
 
 -- data, of an input s within the limit
-pub record Decoding (library : Library) (s : List ℕ) : Type 0 where
+pub record Decoding (library : Library) (decoder : Decoder) (s : List ℕ) : Type 0 where
   -- "Data is decoded as `from_utf8_lossy` does": the len bytes from start on, as far as the input goes
   pub gives : (start len : ℕ) (l : List ℕ)
-      → Gives (decode (take len (drop start s))) l (library.decode s (record { start = start; len = len }) l)
+      → Gives (decode (take len (drop start s))) l (decoder.decode s (record { start = start; len = len }) l)
   -- of an element with text that a step answers, from any state, it gives the data of the element's frame: "data is
   -- length, then bytes", and there is nothing behind it
   pub frame : (w w' : WalkState) (e : LabelElement) → library.step s w ≡ Element w' e → HasText e
       → (t : List ℕ) × (a : List ℕ) × (frame_of s e ≡ a ++ (be32 (length t) ++ t))
-      × ((l : List ℕ) → Gives t l (library.decode s (span_of e) l))
+      × ((l : List ℕ) → Gives t l (decoder.decode s (span_of e) l))
 
 -- 01, "One line changed", of two accepted files that are alike but for one command line behind the units `before`, t in
 -- s and t' in s', both with the ending e (`Replaced`); ls and ls' are the labels answered, n and n' elements are
@@ -641,7 +641,7 @@ pub record Claims (library : Library) : Type 0 where
   pub line_blocks : (t : List ℕ) → (blocks (line t) ≡ []) × (blocks (last t) ≡ [])
   pub flat : Flat
   -- decoded data
-  pub decoding : (s : List ℕ) → length s ≤ longest → Decoding library s
+  pub decoding : (decoder : Decoder) (s : List ℕ) → length s ≤ longest → Decoding library decoder s
   -- the listing program's buffer always has room: no listing has more than 16 bytes for each byte of its input, and 15
   -- is never printed
   pub room : (s : List ℕ) (ls : List FramedLabel) (n : ℕ) → outcome_of s ≡ listed ls n
@@ -660,4 +660,5 @@ pub record Theorem : Type 2 where
   pub proved : Proved
   -- there are such functions, so what is claimed is claimed of something
   pub library : Library
+  pub decoder : Decoder
   pub claims : (library : Library) → Claims library

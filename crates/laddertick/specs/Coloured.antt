@@ -1,4 +1,4 @@
--- What two lines say that differ in nothing but their colour (01, "Grammar"): "`Le` is read as `LO` is, with colour
+-- What two lines say that differ in nothing but their colour (01, "Grammar"): "`LE` is read as `LO` is, with colour
 -- flag 2".
 use Rattle.std.specs.Prelude.{◌≡◌, List, [], ◌∷◌, ◌++◌, ℕ}
 use Rattle.elements.specs.declared.LabelElement.{LabelElement}

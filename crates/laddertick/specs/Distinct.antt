@@ -295,7 +295,7 @@ table =
     "00 00000001 00000001 00000001\n02 00000000 00000000 00000009 00000004 00000004 00\n"
     ∷ several "LO2147483647,-2147483648,12O,- 4\nP1\n"
     "00 00000001 00000001 00000001\n02 7fffffff 80000000 00000001 00000001 00000001 00\n"
-    -- "4 `LO`/`LW`/`Le`, .. with too few fields"
+    -- "4 `LO`/`LW`/`LE`, .. with too few fields"
     ∷ case "LEFT JAR" (refused 4 0 fresh ∷ [])
     -- "13 a sum with the reference": of x, of y
     ∷ case "R1\nLO2147483647,0,1,1" (refused 13 3 fresh ∷ [])

@@ -135,7 +135,6 @@ pub record Library : Type 0 where
   pub step : List ℕ → WalkState → Answer
   pub list : List ℕ → List ℕ → Filling
   pub normalise : List ℕ → List ℕ → Filling
-  pub decode : List ℕ → DataSpan → List ℕ → Filling
   pub check : List ℕ → Checked
   pub strict_list : List ℕ → List ℕ → Filling
   pub index : List ℕ → List LabelEntry → Entering
@@ -151,7 +150,6 @@ pub record Library : Type 0 where
   pub steps : (s : List ℕ) (w : WalkState) → Stepped s w (step s w)
   pub lists : (s l : List ℕ) → Listed s l (list s l).buffer (list s l).answer
   pub normalises : (s l : List ℕ) → Normalised s l (normalise s l).buffer (normalise s l).answer
-  pub decodes : (s : List ℕ) (d : DataSpan) (l : List ℕ) → Decoded s d l (decode s d l).buffer (decode s d l).answer
   pub checks : (s : List ℕ) → Judged s (check s)
   pub strictly_lists : (s l : List ℕ) → StrictlyListed s l (strict_list s l).buffer (strict_list s l).answer
   pub indexes : (s : List ℕ) (l : List LabelEntry) → Entered s l (index s l).list (index s l).answer
@@ -174,6 +172,11 @@ pub record Library : Type 0 where
       → SpelledLabel s xs q l (write_label s xs q l).buffer (write_label s xs q l).answer
   pub writes_label_300 : (s : List ℕ) (xs : List Element300) (q : PrintCounts) (l : List ℕ)
       → SpelledLabel300 s xs q l (write_label_300 s xs q l).buffer (write_label_300 s xs q l).answer
+
+-- a function that meets the contract of `decode`, which is beside the others
+pub record Decoder : Type 0 where
+  pub decode : List ℕ → DataSpan → List ℕ → Filling
+  pub decodes : (s : List ℕ) (d : DataSpan) (l : List ℕ) → Decoded s d l (decode s d l).buffer (decode s d l).answer
 
 -- ---- what a call did, from its answer and its buffer alone
 

@@ -1,4 +1,4 @@
--- 01, "The label index", on files: their entries, and what opening one is due. `indexed` (proofs/Indexed.antt): every
+-- 01, "The label index", on files: their entries, and what opening one is due. `indexed` (proofs/IndexedRows.antt): every
 -- row holds.
 use Rattle.std.specs.Prelude.{List, [], ◌∷◌, ℕ, ℤ, pos}
 use Prim.Native.String.{String}

@@ -1,5 +1,5 @@
 -- 01, "Joining two files", on pairs of files: the joined text, character by character, and what `list` writes for it;
--- or the refusal, and which file was refused. `joined` (proofs/Joined.antt): every row holds.
+-- or the refusal, and which file was refused. `joined` (proofs/JoinedRows.antt): every row holds.
 use Rattle.std.specs.Prelude.{List, [], ◌∷◌, ℕ}
 use Prim.Native.String.{String}
 use Rattle.elements.specs.Given.{text, denied}

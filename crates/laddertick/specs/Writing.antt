@@ -45,7 +45,7 @@ pub data AllYieldable (s : List ℕ) : List LabelElement → Type 0 where
 -- n elements with the counts q are no label: "A label with no element, more than 16,777,216 elements or a negative
 -- count, which no file yields"
 pub data NoLabel (n : ℕ) (q : PrintCounts) : Type 0 where
-  no_element_lem : n ≡ 0 → NoLabel n q
+  without_element : n ≡ 0 → NoLabel n q
   too_many : longest < n → NoLabel n q
   negative_sets : (k : ℕ) → q.sets ≡ negsuc k → NoLabel n q
   negative_copies : (k : ℕ) → q.copies ≡ negsuc k → NoLabel n q
@@ -175,7 +175,7 @@ pub record Spelling : Type 0 where
       → Lined b.width b.height b.border_thickness → Begins "LO" (spell s (GraphicBox b))
   pub black_corners : (s : List ℕ) (b : box.GraphicBox) → b.line_color ≡ Black
       → (Lined b.width b.height b.border_thickness → ⊥) → Begins "X" (spell s (GraphicBox b))
-  -- "white and exclusive-OR boxes are `LW` and `Le`": those that a line yields
+  -- "white and exclusive-OR boxes are `LW` and `LE`": those that a line yields
   pub white : (s : List ℕ) (b : box.GraphicBox) → Yieldable s (GraphicBox b) → b.line_color ≡ White
       → Begins "LW" (spell s (GraphicBox b))
   pub exclusive_or : (s : List ℕ) (b : box.GraphicBox) → Yieldable s (GraphicBox b) → b.line_color ≡ Xor

@@ -99,7 +99,7 @@ table =
     ∷ one "X1,2,8,4,9" "X101,202,8,104,209"
     ∷ one "X1,2,3,4,2" "X101,202,3,104,202"
     ∷ one "X1,2,3,1,5" "X101,202,3,101,205"
-    -- "white and exclusive-OR boxes are `LW` and `Le`"
+    -- "white and exclusive-OR boxes are `LW` and `LE`"
     ∷ one "LW1,2,9,4" "LW101,202,9,4"
     ∷ one "LE1,2,4,9" "LE101,202,4,9"
     -- 03 diagonal: direction 1 from either end, both sides 0, direction 0 from either end, one side 0
@@ -169,7 +169,7 @@ table =
     ∷ alone (ascii "-abc-") (box (pos 30) (pos 40) (pos 5) 0) (text (ascii "X11,-22,5,41,18\n"))
     ∷ alone (ascii "-abcd-") (dots 1 4) (text (ascii "GW11,-22,2,2,abcd\n"))
     -- "23 (.. 0 if alone) .. a negative width"; a height; no thickness; a white box and an exclusive-OR one that no
-    -- `LW` or `Le` draws
+    -- `LW` or `LE` draws
     ∷ alone [] (box (negsuc 29) (pos 40) (pos 5) 0) (denied 23 0)
     ∷ alone [] (box (pos 30) (negsuc 39) (pos 5) 0) (denied 23 0)
     ∷ alone [] (box (pos 30) (pos 40) (pos 0) 0) (denied 23 0)

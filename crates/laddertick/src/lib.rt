@@ -3,6 +3,8 @@
 // where on a label; a label from 203 to 300 dots; two files joined; one element written as its command, also from a
 // struct, and a label of structs, also at 300 dots; with every type that a host is handed. What is claimed of them
 // stands in specs/Claims.antt.
+#![tactic(auto)]
+
 pub use dots::element::Element300;
 pub use dots::length::Dots300;
 pub use dots_label::label::{Label300, to_300};

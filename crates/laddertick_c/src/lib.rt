@@ -1,4 +1,6 @@
 // The static library that hosts link. Nothing is asked of a caller but that what it lends is its own for the call.
+#![tactic(auto)]
+
 ghost use Rattle.std.specs.Prelude.{◌≡◌, length};
 ghost use Rattle.elements.specs.Given.{Fills};
 ghost use Rattle.walk_theory.specs.Step as theory;

@@ -1,2 +1,2 @@
-// Functions over a list of structs that a host lends, which the borrow checker does not cover: laws of them at any
-// struct of plain data. No code.
+// Lists that a host lends: one that a loop fills from the front, and one that a loop passes. No code.
+#![tactic(auto)]

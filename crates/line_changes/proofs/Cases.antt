@@ -13,7 +13,7 @@ use Rattle.command_letters.specs.declared.command.Command.TheVariants.{Clear, Re
 use Rattle.command_letters.specs.Command.{is_reference, is_print, command_of}
 use Rattle.command_letters.specs.Print.{is_counts}
 use Rattle.graphics.specs.Block.{opens_gw, gw_span}
-use Rattle.walk_theory.specs.Normal.{none_left, and_then_lem}
+use Rattle.walk_theory.specs.Normal.{none_left, and_solid}
 use Rattle.grammar.specs.Units.{line, not_lf}
 use Rattle.grammar.specs.Found.{first}
 use Rattle.grammar.specs.WellFormed.{well_formed}
@@ -54,7 +54,7 @@ by_lf =
       old = refl;
       new = refl;
       in_front = refl;
-      begins = and_then_lem (λ rest. (reads.sound (ascii "R1\n") (line (ascii "R1")) [] refl).1) none_left;
+      begins = and_solid (λ rest. (reads.sound (ascii "R1\n") (line (ascii "R1")) [] refl).1) none_left;
       old_ends = tt;
       new_ends = tt;
       old_line = box;
@@ -70,7 +70,7 @@ by_the_end =
       old = refl;
       new = refl;
       in_front = refl;
-      begins = and_then_lem (λ rest. (reads.sound (ascii ";\n") (line (ascii ";")) [] refl).1) none_left;
+      begins = and_solid (λ rest. (reads.sound (ascii ";\n") (line (ascii ";")) [] refl).1) none_left;
       old_ends = (omega arith, refl);
       new_ends = (omega arith, refl);
       old_line = box;

@@ -1,4 +1,6 @@
 // The listing program: standard input to frames, one a line.
+#![tactic(auto)]
+
 ghost use Rattle.file_listing.specs.Listing.{due_of};
 ghost use Rattle.file_listing.specs.Printing.{Shows};
 

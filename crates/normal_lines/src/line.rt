@@ -15,7 +15,7 @@ use numbers::blank::{first, trim_ascii_end, trim_ascii_start};
 const PIECE: usize = 4096;
 
 // A line that was written: its bytes, its LF among them, and the place behind what was written.
-#[derive(Drop)]
+#[derive(Clone, Copy)]
 pub struct Line {
     pub size: usize,
     pub to: usize,
@@ -23,7 +23,7 @@ pub struct Line {
 
 // A line that was looked through: its bytes, its LF among them, and how many are left without it and the blanks at the
 // ends.
-#[derive(Drop)]
+#[derive(Clone, Copy)]
 pub struct Kept {
     pub size: usize,
     pub len: usize,

@@ -1,4 +1,6 @@
 // The normaliser as a program: standard input to standard output.
+#![tactic(auto)]
+
 ghost use Rattle.std.specs.Prelude.{length};
 ghost use Rattle.text.specs.Wrote.{Put};
 ghost use Rattle.format.specs.Normalise.{due_of};

@@ -18,10 +18,10 @@ use Rattle.numbers.specs.declared.int.Checked.TheVariants.{Fits}
 
 -- a number read back from its bits, by what a call says of its range
 pub back32 : (z : ℤ) → mag z < 2147483648 → to_z w32 (of_z w32 z) ≡ z
-back32 z h = to_z-of_z (record { sfits = h })
+back32 z h = to_z-of_z {w = w32} (record { sfits = h })
 
 pub back64 : (z : ℤ) → mag z < 9223372036854775808 → to_z w64 (of_z w64 z) ≡ z
-back64 z h = to_z-of_z (record { sfits = h })
+back64 z h = to_z-of_z {w = w64} (record { sfits = h })
 
 -- sums, differences and products of 32 bits fit 64
 

@@ -8,7 +8,7 @@ use crate::blank::trim;
 use byte_classes::class::{is_digit, is_sign};
 
 // What a field held. Its form comes before its range: 99999999999x is no number, 99999999999 is one beyond 32 bits.
-#[derive(Drop)]
+#[derive(Clone, Copy)]
 pub enum Number {
     Value(i32),
     // Nothing but blanks.
@@ -20,7 +20,7 @@ pub enum Number {
 }
 
 // The value of digits.
-#[derive(Drop)]
+#[derive(Clone, Copy)]
 enum Magnitude {
     // At most 2^31.
     Upto(u64),

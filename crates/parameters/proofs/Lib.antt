@@ -1,4 +1,3 @@
 pub mod FloatLaws
 pub mod ParamsLaws
 pub mod PlaceLaws
-pub mod Walks

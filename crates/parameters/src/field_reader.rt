@@ -1,7 +1,6 @@
 // A reader of a parameter part's fields: the part, and the place of the next field.
-// The borrow checker covers no function over a struct that holds a reference. So the work stands in functions of a
-// plain slice and a place, and those of the reader only make it or take it apart. Commands are read through `params`,
-// whose functions have plain parameters.
+// The work stands in functions of a plain slice and a place; those of the reader only make it or take it apart. Commands
+// are read through `params`, whose functions have plain parameters.
 ghost use Rattle.std.specs.Prelude.{◌≡◌, ◌≤◌, length, drop};
 ghost use Rattle.parameters.specs.Params.{number_from};
 
@@ -9,7 +8,7 @@ use byte_slices::scan::find;
 use numbers::number::{Number, number_or, or_default};
 
 // A number field's value, and the place of what follows its comma.
-#[derive(Drop)]
+#[derive(Clone, Copy)]
 pub struct Numbered {
     pub value: i32,
     pub next: usize,

@@ -72,7 +72,7 @@ pub fn size_from(s: &[u8], at: usize, default: i32) -> Numbered
 }
 
 // x and y in two fields, and the place of what follows.
-#[derive(Drop)]
+#[derive(Clone, Copy)]
 pub struct Pointed {
     pub point: LabelPosition,
     pub next: usize,

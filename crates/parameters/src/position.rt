@@ -5,7 +5,7 @@ ghost use Rattle.parameters.specs.Position.{placed};
 use elements::LabelPosition;
 use numbers::int::{Checked, checked_add};
 
-#[derive(Drop)]
+#[derive(Clone, Copy)]
 pub enum Placed {
     At(LabelPosition),
     Outside,

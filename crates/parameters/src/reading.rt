@@ -2,7 +2,7 @@
 use elements::LabelElement;
 use elements::refusal::Refusal;
 
-#[derive(Drop)]
+#[derive(Clone, Copy)]
 pub enum LineReading {
     Passed,
     // `N`: what is pending is dropped, the reference becomes 0,0.

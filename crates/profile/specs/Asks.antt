@@ -68,7 +68,7 @@ data_asks Text s =
 data_asks Barcode s = nth s 0 any ∷ nth s 1 any ∷ nth s 2 rotation ∷ nth s 4 any ∷ nth s 5 any ∷ nth s 6 any ∷ []
 data_asks Barcode2d s = nth s 0 any ∷ nth s 1 any ∷ []
 
--- "`LO` (black), `LW` (white) and `Le` (exclusive-OR): x, y, width, height"
+-- "`LO` (black), `LW` (white) and `LE` (exclusive-OR): x, y, width, height"
 abbrev pub side_asks : List ℕ → List Ask
 side_asks s = nth s 0 any ∷ nth s 1 any ∷ nth s 2 any ∷ nth s 3 any ∷ []
 

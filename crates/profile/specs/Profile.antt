@@ -20,7 +20,7 @@ use Rattle.profile.specs.declared.unit.Looked.TheVariants.{Passed, Objected}
 use Rattle.command_letters.specs.declared.command.Command.{Command}
 use Rattle.command_letters.specs.declared.command.Command.TheVariants as command
 use Rattle.command_letters.specs.declared.command.DataCommand.{DataCommand}
-use Rattle.command_letters.specs.declared.command.DataCommand.TheVariants as with_data_lem
+use Rattle.command_letters.specs.declared.command.DataCommand.TheVariants as data_command
 use Rattle.command_letters.specs.Command.{command_of}
 use Rattle.graphics.specs.declared.gw_span.Graphic.{Graphic}
 use Rattle.graphics.specs.declared.gw_span.Graphic.TheVariants as graphic
@@ -87,11 +87,11 @@ if_counted enough qs s = cond enough (by_rules qs s) Fine
 -- `A`: x, y, rotation, font, horizontal, vertical. `B`: x, y, rotation, its type, which is no number, narrow, wide,
 -- height. `b`: x, y: "Parameters of `b` past its type are exempt"
 abbrev pub data_rules : DataCommand → List ℕ
-data_rules with_data_lem.Text = ascii "xyRFHV"
-data_rules with_data_lem.Barcode = ascii "xyR-nwh"
-data_rules with_data_lem.Barcode2d = ascii "xy"
+data_rules data_command.Text = ascii "xyRFHV"
+data_rules data_command.Barcode = ascii "xyR-nwh"
+data_rules data_command.Barcode2d = ascii "xy"
 
--- `LO`, `LW`, `Le`: x, y, width, height
+-- `LO`, `LW`, `LE`: x, y, width, height
 abbrev pub line_rules : List ℕ
 line_rules = ascii "xywh"
 

@@ -8,7 +8,7 @@ use numbers::int::equal;
 use numbers::number::{Number, field_number};
 
 // What a field held that the profile objects to.
-#[derive(Drop)]
+#[derive(Clone, Copy)]
 pub enum Held {
     Empty,
     NoNumber,
@@ -43,7 +43,7 @@ impl Held {
 }
 
 // What the profile has against a field, or a unit: nothing, or what the field, counted from 1, held.
-#[derive(Drop)]
+#[derive(Clone, Copy)]
 pub enum Objection {
     Fine,
     To(u32, Held),

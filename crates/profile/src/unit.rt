@@ -113,7 +113,7 @@ fn line_objection(line: &[u8]) -> Objection
 }
 
 // A look at what stands first: how many bytes it has, where the profile has nothing against it; or the objection.
-#[derive(Drop)]
+#[derive(Clone, Copy)]
 pub enum Looked {
     Passed(usize),
     Objected(u32, Held),

@@ -30,7 +30,7 @@ use Rattle.barcodes_2d.specs.Barcode2d.{aztec_reading, datamatrix_reading, maxic
 use Rattle.commands.specs.Line.{read_line}
 use Rattle.walk_theory.specs.Language.{keep}
 use Rattle.walk_theory.specs.Labels.{goes, run}
-use Rattle.walk_theory.specs.Normal.{Solid, none_left, and_then_lem}
+use Rattle.walk_theory.specs.Normal.{Solid, none_left, and_solid}
 use Rattle.grammar.specs.WellFormed.{well_formed}
 use Rattle.grammar.specs.Units.{EplUnit, block, line, all_nil, Command}
 use Rattle.grammar.specs.Epl.{origin, act_of, acts, epl}
@@ -65,7 +65,7 @@ line_makes {t} {s} {e} i y =
       yieldable = record { within = i; unit = line t; rest = []; stands = command_of_lem y; it = y.it; yields = ap (act_of origin) y.reads; same = y.same };
       behind = [];
       front = refl;
-      solid = and_then_lem (λ rest. command_of_lem y) none_left;
+      solid = and_solid (λ rest. command_of_lem y) none_left;
       runs = λ p. rw (y.reads, y.same) refl;
     }
 
@@ -100,7 +100,7 @@ module _ (s : List ℕ) (short : length s ≤ longest) where
         yieldable = record { within = (there s g f.across f.down hr hs i v w, tt); unit = block [] (header_for g.position g.row_bytes (part s g.«data»)) (part s g.«data»); rest = []; stands = st; it = block_it s g f.across f.down hr hs i v w; yields = ac; same = sa };
         behind = line [] ∷ [];
         front = refl;
-        solid = and_then_lem (λ rest. st) (and_then_lem (λ rest. empty_command) none_left);
+        solid = and_solid (λ rest. st) (and_solid (λ rest. empty_command) none_left);
         runs = λ p. rw ac (rw empty_keeps (ap (λ (x : Shown). goes [] origin (p ++ (x ∷ []))) sa));
       }
 

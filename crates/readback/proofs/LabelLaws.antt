@@ -29,7 +29,7 @@ use Rattle.walk_theory.specs.Language.{clear, print, yield}
 use Rattle.walk_theory.specs.Division.{Division}
 use Rattle.walk_theory.specs.Labels.{Label, goes, run, flush, closed, labels, labels_of}
 use Rattle.walk_theory.specs.Labels as labelled
-use Rattle.walk_theory.specs.Normal.{each, Solid, none_left, and_then_lem}
+use Rattle.walk_theory.specs.Normal.{each, Solid, none_left, and_solid}
 use Rattle.walk_theory.specs.Step.{state, handing}
 use Rattle.walk_theory.specs.Reach.{Reach}
 use Rattle.walk_theory.specs.Claims.{Local}
@@ -131,7 +131,7 @@ module _ (s : List ℕ) (short : length s ≤ longest) (e : LabelElement) (f : F
   first_stands us u vs g k rest = go (subst (Solid epl) k g) rest
     where
       go : Solid epl (u ∷ vs) → (rest : List ℕ) → epl.Stands u rest
-      go (and_then_lem st q) rest = st rest
+      go (and_solid st q) rest = st rest
 
   pub read_back : ReadBack s e
   unfolding handing
@@ -264,7 +264,7 @@ module _ (s : List ℕ) (short : length s ≤ longest) where
   module _ (es : List LabelElement) (q : PrintCounts) (c : Counts q) (a : AllWritable s es) where
     label_solid : Solid epl (label_units s es q)
     unfolding label_units
-    label_solid = and_then_lem (λ rest. clear_command) (solid_append epl (elements_solid es a) (and_then_lem (λ rest. print_command q c) none_left))
+    label_solid = and_solid (λ rest. clear_command) (solid_append epl (elements_solid es a) (and_solid (λ rest. print_command q c) none_left))
 
     -- its text divides into its units
     label_divides : Division epl (spell_label s es q) (label_units s es q)

@@ -1,6 +1,8 @@
 // Replays the inputs of `stdin` and prints the listing of each, then a line with a full stop; `stdout` has the oracle's
 // answers (tools/oracle/cases).
 // Each case is its length, 4 bytes with the most significant first, and its bytes.
+#![tactic(auto)]
+
 ghost use Rattle.std.specs.Prelude.{◌≡◌, ◌<◌, length};
 
 use elements::DataSpan;

@@ -90,7 +90,7 @@ black_is White e = absurd (true≢false (sym e))
 black_is Xor e = absurd (true≢false (sym e))
 
 module _ (p : LabelPosition) (x : Extent) (f : Sides p x) where
-  -- by `LO`, `LW`, `Le`
+  -- by `LO`, `LW`, `LE`
   by_line_lem : (c : LineColor) → is_line x ≡ true → read_line (76 ∷ line_letter c ∷ by_line p x) origin ≡ reading.Element (box_at p x c)
   unfolding is_line
   by_line_lem c e =

@@ -58,7 +58,7 @@ pub yields_by : (P : LabelElement → Type 0) (q : Placed) (e : LabelPosition �
 yields_by P (placing.At p) e h = h p
 yields_by P placing.Outside e h = tt
 
--- `LO`, `LW`, `Le`
+-- `LO`, `LW`, `LE`
 
 line_is : (p : LabelPosition) (w h : ℤ) (c : LineColor) → le_z (pos 1) w ≡ true → le_z (pos 1) h ≡ true → fine_box p (record { width = w; height = h; thickness = min_z w h }) c ≡ true
 unfolding fine_box is_line

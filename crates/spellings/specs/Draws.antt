@@ -20,7 +20,7 @@ is_black Black = true
 is_black White = false
 is_black Xor = false
 
--- the second letter of `LO`, `LW`, `Le`
+-- the second letter of `LO`, `LW`, `LE`
 abbrev pub line_letter : LineColor → ℕ
 line_letter Black = letter "O"
 line_letter White = letter "W"
@@ -47,7 +47,7 @@ by_corners p x = numbers p.x (p.y ∷ x.thickness ∷ (p.x +ℤ x.width) ∷ (p.
 abbrev pub by_corners_up : LabelPosition → Extent → List ℕ
 by_corners_up p x = numbers p.x ((p.y +ℤ x.height) ∷ x.thickness ∷ (p.x +ℤ x.width) ∷ p.y ∷ [])
 
--- "A black box is written as `LO` where .., else as `X`; white and exclusive-OR boxes are `LW` and `Le`"
+-- "A black box is written as `LO` where .., else as `X`; white and exclusive-OR boxes are `LW` and `LE`"
 unfoldable pub spell_box : LabelPosition → Extent → LineColor → List ℕ
 spell_box p x c = cond (is_line x) (letter "L" ∷ line_letter c ∷ by_line p x) (spelt "X" (by_corners p x))
 

@@ -8,7 +8,7 @@ use profile::rule::Held;
 // also the field, counted from 1, and what it held: 1 nothing, 2 no number, 3 one beyond 32 bits, 4 a value outside the
 // profile. 0 for all others.
 #[repr(C)]
-#[derive(Drop)]
+#[derive(Clone, Copy)]
 pub struct Checked {
     pub number: u32,
     pub field: u32,

@@ -8,7 +8,7 @@ use frame_bytes::fields::{flag, rotation};
 
 // What a command draws. A field that is none of its kind's is 0.
 #[repr(C)]
-#[derive(Drop)]
+#[derive(Clone, Copy)]
 pub struct Element {
     // 1 to 16, its frame's kind.
     pub kind: u8,
@@ -61,7 +61,7 @@ pub struct Element {
 // What a step answers. A field that is none of its kind's is 0; of a print, a clear, the end and a refusal so is every
 // field of the element.
 #[repr(C)]
-#[derive(Drop)]
+#[derive(Clone, Copy)]
 pub struct FlatAnswer {
     // The element's; or 0 a print, 17 a clear, 18 the end, 255 a refusal.
     pub kind: u8,

@@ -1,4 +1,6 @@
 // What a step answers, for hosts that know numbers and structs only.
+#![tactic(auto)]
+
 pub mod answer;
 pub mod element;
 pub mod steps;

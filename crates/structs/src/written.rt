@@ -12,7 +12,7 @@ use where_element::found::Found;
 // number 0: the text or the list is written, place is its length; or place is the number of an element. Else a refusal:
 // its number and its place.
 #[repr(C)]
-#[derive(Drop)]
+#[derive(Clone, Copy)]
 pub struct Written {
     pub number: u32,
     pub place: usize,

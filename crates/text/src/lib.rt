@@ -1,3 +1,5 @@
 // What bytes say, as definitions and laws: decoding, blanks, classes, fields. The code over them is `byte_classes`,
-// `bytes` and `numbers`.
+// `byte_slices` and `numbers`.
+#![tactic(auto)]
+
 pub mod num;

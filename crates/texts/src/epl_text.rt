@@ -9,7 +9,7 @@ use parameters::params::{is_exactly, number_from, reaches, rest_from, size_from}
 use parameters::position::{Placed, place};
 use parameters::reading::LineReading;
 
-#[derive(Drop)]
+#[derive(Clone, Copy)]
 pub struct TextFields {
     pub at: LabelPosition,
     pub rotation: i32,

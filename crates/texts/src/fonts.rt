@@ -6,13 +6,13 @@ use elements::FontInfo;
 use numbers::int::{Checked, checked_mul, equal};
 use parameters::rotation::epl_rotation;
 
-#[derive(Drop)]
+#[derive(Clone, Copy)]
 pub struct Cell {
     pub width: i32,
     pub height: i32,
 }
 
-#[derive(Drop)]
+#[derive(Clone, Copy)]
 pub enum Scaled {
     Font(FontInfo),
     Outside,

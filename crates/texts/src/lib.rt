@@ -1,3 +1,5 @@
 // `A`: fonts and text.
+#![tactic(auto)]
+
 pub mod epl_text;
 pub mod fonts;

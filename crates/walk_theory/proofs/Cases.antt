@@ -15,7 +15,7 @@ use Rattle.walk_theory.specs.Division.{Division, Reads, Firm, units_of}
 use Rattle.walk_theory.specs.Labels.{Label, flush, labels, labels_of, Divides}
 use Rattle.walk_theory.specs.Step.{state, handing, answer, step}
 use Rattle.walk_theory.specs.Trace.{listed, trace, outcome}
-use Rattle.walk_theory.specs.Normal.{none_left, and_then_lem, no_longer, Normalises, Normal}
+use Rattle.walk_theory.specs.Normal.{none_left, and_solid, no_longer, Normalises, Normal}
 use Rattle.walk_theory.specs.Claims.{Local, Walks}
 use Rattle.walk_theory.specs.Index.{unfilled, entries, filling, opens, denies, opening, Indexed}
 use Rattle.walk_theory.proofs.Whole.{whole}
@@ -75,7 +75,7 @@ law : Normalises letters ℕ byte (λ s. s) (λ u. []) (λ u. u ∷ [])
 law = record {
   at_end = refl;
   at_unit = λ u rest st. refl;
-  solid = λ u rest st. and_then_lem (λ x. st) none_left;
+  solid = λ u rest st. and_solid (λ x. st) none_left;
   same_run = λ u us r p. refl;
   same_blocks = λ u. refl;
   settled = λ u. refl;

@@ -7,7 +7,7 @@ use native.Mathlib.Omega.{arith}
 use Rattle.walk_theory.specs.Language.{First, none, bad, unit, Language}
 use lib.ListN.{length, length-append}
 use Rattle.walk_theory.specs.Division.{Division, done, more, Reads, Firm, on_units, units_by, units_of}
-use Rattle.walk_theory.specs.Normal.{each, Solid, none_left, and_then_lem}
+use Rattle.walk_theory.specs.Normal.{each, Solid, none_left, and_solid}
 
 -- ---- First
 module _ {U : Type 0} where
@@ -102,4 +102,4 @@ module _ (L : Language) where
         (none_left, omega (arith, (reads.sound (bytes v ++ rest) v rest (reads.finds v rest st)).2, ap length e, length-append (bytes v) rest))
     front_solid reads (u ∷ us) v vs (more {rest} e st d) =
         let i = front_solid reads us v vs d in
-        (and_then_lem (stands_any u rest i.1 st) i.0, omega (arith, i.1, ap length e, length-append (bytes u) rest))
+        (and_solid (stands_any u rest i.1 st) i.0, omega (arith, i.1, ap length e, length-append (bytes u) rest))

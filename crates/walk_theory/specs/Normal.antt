@@ -12,7 +12,7 @@ each f (u ∷ us) = f u ++ each f us
 -- units that stand before anything
 pub data Solid (L : Language) : List L.U → Type 0 where
   none_left : Solid L []
-  and_then_lem : {u : L.U} {us : List L.U} → ((rest : List ℕ) → L.Stands u rest) → Solid L us → Solid L (u ∷ us)
+  and_solid : {u : L.U} {us : List L.U} → ((rest : List ℕ) → L.Stands u rest) → Solid L us → Solid L (u ∷ us)
 
 -- m bytes that became n: no more; or one more, for a unit of at least six bytes, or for the last one
 pub data Grows (m n : ℕ) (rest : List ℕ) : Type 0 where

@@ -16,7 +16,7 @@ use graphics::gw_span::{Block, read_block};
 use parameters::reading::LineReading;
 
 // What stands first: nothing, a fault, or a unit of that many bytes with what it does.
-#[derive(Drop)]
+#[derive(Clone, Copy)]
 pub enum Reading {
     End,
     Fault(Refusal),

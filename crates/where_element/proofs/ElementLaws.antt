@@ -1,39 +1,18 @@
--- Elements that have no rectangle of their own; the first of the least numbers in a list.
+-- The first of the least numbers in a list.
 -- Assumes nothing.
 use mathlib.Core.Path.{◌≡◌, refl, sym, ap, ◌∙◌}
-use mathlib.Core.Bool.{false}
 use mathlib.Core.List.{List, [], ◌∷◌, ◌++◌, append_assoc, append-nil}
 use Prim.Native.Nat.{ℕ, suc, ◌<◌, ◌≤◌}
 use native.Mathlib.Omega.{arith}
 use lib.Dec.{ltb}
 use lib.ListN.{length, get_or, length-append, get_or-append}
 use lib.Seq.{get_or-append_seam}
-use package.types.Run.{OneOf, miss}
-use denote.Enum.Declared.{tag_of}
 use borrow.Author.Tests.{ltb-true, ltb-false}
 use Rattle.text.proofs.BoolLaws.{test}
-use Rattle.elements.specs.contracts.plain.Fields.{the_type}
 use Rattle.elements.specs.declared.LabelElement.{LabelElement}
-use Rattle.elements.specs.declared.plain.Fields.{Fields}
-use Rattle.elements.specs.declared.plain.Fields.TheVariants as fields
 use Rattle.elements.specs.declared.LabelPosition.{LabelPosition}
-use Rattle.where_element.specs.declared.place.Rectangle.{Rectangle}
 use Rattle.where_element.specs.Place.{distance}
-use Rattle.where_element.specs.Element.{position_of, is_on_by, least_from, least_at, distances, nearest_of, FirstLeast}
-
-pub off_tag : (r : Rectangle) (p : LabelPosition) (f : Fields) → OneOf (0 ∷ 3 ∷ 4 ∷ 5 ∷ 6 ∷ 7 ∷ 8 ∷ 9 ∷ 10 ∷ 11 ∷ []) (tag_of the_type f) → false ≡ is_on_by r p f
-off_tag r p (fields.Text a b c) h = refl
-off_tag r p (fields.Box x c) h = absurd (miss (0 ∷ 3 ∷ 4 ∷ 5 ∷ 6 ∷ 7 ∷ 8 ∷ 9 ∷ 10 ∷ 11 ∷ []) 1 tt h)
-off_tag r p (fields.Diagonal x d) h = absurd (miss (0 ∷ 3 ∷ 4 ∷ 5 ∷ 6 ∷ 7 ∷ 8 ∷ 9 ∷ 10 ∷ 11 ∷ []) 2 tt h)
-off_tag r p (fields.Graphic n) h = refl
-off_tag r p (fields.Code128 b m) h = refl
-off_tag r p (fields.Bars b) h = refl
-off_tag r p (fields.Ratio b k w q) h = refl
-off_tag r p (fields.Pdf417 b) h = refl
-off_tag r p (fields.Aztec b) h = refl
-off_tag r p (fields.Datamatrix b) h = refl
-off_tag r p (fields.Qr b l) h = refl
-off_tag r p (fields.Maxicode m) h = refl
+use Rattle.where_element.specs.Element.{position_of, least_from, least_at, distances, nearest_of, FirstLeast}
 
 -- ---- the first of the least numbers
 

@@ -2,7 +2,7 @@
 use elements::refusal::Refusal;
 
 // How many elements were found, or the number of the nearest one; or why there is none, and the place.
-#[derive(Drop)]
+#[derive(Clone, Copy)]
 pub enum Found {
     Number(usize),
     Refused(Refusal, usize),

@@ -7,7 +7,7 @@ use elements::LabelPosition;
 
 // A closed rectangle: its near corner, and its far one.
 #[repr(C)]
-#[derive(Drop)]
+#[derive(Clone, Copy)]
 pub struct Rectangle {
     pub x1: i32,
     pub y1: i32,
@@ -57,7 +57,7 @@ fn meets(at: i32, size: i32, low: i32, high: i32) -> bool
 }
 
 // The rectangle from x, y to x + w, y + h shares a point with another.
-pub(crate) fn touches(x: i32, y: i32, w: i32, h: i32, r: Rectangle) -> bool
+pub fn touches(x: i32, y: i32, w: i32, h: i32, r: Rectangle) -> bool
     ensures { result ≡ is_touching x y w h r }
 {
     meets(x, w, r.x1, r.x2) & meets(y, h, r.y1, r.y2)

@@ -6,8 +6,6 @@ use mathlib.Core.List.{List, [], ◌∷◌, ◌++◌}
 use Prim.Native.Nat.{ℕ, suc, ◌+◌, ◌≤◌}
 use native.Mathlib.Omega.{arith}
 use lib.ListN.{length}
-use types.Run.{OneOf, miss}
-use denote.Enum.Declared.{tag_of, declared}
 use Rattle.elements.specs.declared.LabelElement.{LabelElement}
 use Rattle.elements.specs.declared.walk_state.WalkState.{WalkState}
 use Rattle.walk_theory.specs.Step.{step}
@@ -15,7 +13,6 @@ use Rattle.grammar.specs.Epl.{epl}
 use Rattle.walk.specs.Steps.{state_of, answer_of}
 use Rattle.walk.specs.declared.answer.Answer.{Answer}
 use Rattle.walk.specs.declared.answer.Answer.TheVariants.{Element, Clear, Print, End, Refused}
-use Rattle.walk.specs.contracts.answer.Answer.{enum}
 use Rattle.walk.proofs.WalkLaws.{on_step, begins}
 use Rattle.where_element.specs.Element.{numbers_from}
 use Rattle.where_label.specs.Find.{leading, elements_from, count_if, one_if}
@@ -26,8 +23,8 @@ module _ (s : List ℕ) (w : WalkState) (r q : Answer) (e : answer_of r ≡ step
   elements_by = ap (leading s) (begins s w r q e k)
 
 -- an answer that is no element begins with none
-pub leading_none : (s : List ℕ) (q : Answer) → OneOf (1 ∷ 2 ∷ 3 ∷ 4 ∷ []) (tag_of (declared enum) q) → leading s (on_step s q) ≡ []
-leading_none s (Element v x) h = absurd (miss (1 ∷ 2 ∷ 3 ∷ 4 ∷ []) 0 tt h)
+pub leading_none : (s : List ℕ) (q : Answer) → ((v : WalkState) (x : LabelElement) → q ≡ Element v x → ⊥) → leading s (on_step s q) ≡ []
+leading_none s (Element v x) h = absurd (h v x refl)
 leading_none s (Clear v) h = refl
 leading_none s (Print v n) h = refl
 leading_none s (End v) h = refl

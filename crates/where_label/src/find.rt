@@ -19,7 +19,7 @@ use where_element::found::Found;
 use where_element::place::{Rectangle, is_turned};
 
 // What is asked: by their own rectangles, or by their positions.
-#[derive(Drop)]
+#[derive(Clone, Copy)]
 pub struct Look {
     pub rectangle: Rectangle,
     pub own: bool,
@@ -27,7 +27,7 @@ pub struct Look {
 
 // The first label of a walk: the state that its elements begin at, and how many of them are found; or a refusal and its
 // place.
-#[derive(Drop)]
+#[derive(Clone, Copy)]
 pub enum Counted {
     Label(WalkState, usize),
     NoLabel(Refusal, usize),

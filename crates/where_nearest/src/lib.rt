@@ -1,2 +1,4 @@
 // The element of one label that is nearest to a point.
+#![tactic(auto)]
+
 pub mod nearest;

@@ -15,7 +15,7 @@ use where_element::element::distance_of;
 use where_element::found::Found;
 
 // The nearest so far.
-#[derive(Drop)]
+#[derive(Clone, Copy)]
 pub struct Best {
     pub number: usize,
     pub distance: u64,

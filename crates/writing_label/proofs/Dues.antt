@@ -1,6 +1,7 @@
 -- What is due of a label is what two passes make of it, from what is known where they are made: lengths of 64 bits and
--- counts of 32 (Walk's Due, at either resolution). Assumes nothing.
-use mathlib.Core.Path.{◌≡◌, refl, sym, subst}
+-- counts of 32 (`label_due_lem` and `label_due_300`, at either resolution). Also by the calls that make them, each as its
+-- contract has it (`said`). Assumes nothing.
+use mathlib.Core.Path.{◌≡◌, refl, sym, ap, ◌∙◌, subst}
 use mathlib.Core.List.{List, [], ◌∷◌, map}
 use Prim.Native.Nat.{ℕ, suc, ◌+◌, ◌<◌, ◌≤◌, ◌^◌}
 use native.Mathlib.Omega.{arith}
@@ -62,3 +63,18 @@ label_due_300 s xs l sets copies m e many room h k p q =
     subst (λ (n : ℕ). Shown s (map at300 xs) l sets copies m e (plan_of (length s) n (length l) m.0 sets copies)) n
     (label_due_lem s (map at300 xs) l sets copies m e (subst (λ (n : ℕ). n < 2 ^ 64) (sym n) many) room h k (passes_map at300 (TurnOf s) xs (measured, l) m p))
     (passes_map at300 (TurnOf s) xs _ e q)
+
+-- ---- by the calls
+-- the first pass begins at c₀ and ends at m and l₁; p is what is answered; the second begins at c and l₂ and ends at e and
+-- l₃; r and l₄ are how it ends. Then whatever is said of two passes is said of r and l₄
+module _ {X : Type 0} (Turn : X → Held → Held → Type 0) (plan : Tally → Filled) (Says : List ℕ → Filled → Type 0) (xs : List X) (l : List ℕ) (sets copies : ℤ) where
+  abbrev pub Due : Type 0
+  Due = (m e : Held) → Passes Turn xs (measured, l) m → Passes Turn xs (begin_of (plan m.0) m.1) e
+      → Says (finish_of (plan m.0) e.0 sets copies e.1).1 (finish_of (plan m.0) e.0 sets copies e.1).0
+
+  pub said : Due → (c₀ m c e : Tally) (p r : Filled) (l₁ l₂ l₃ l₄ : List ℕ) → c₀ ≡ measured → Passes Turn xs (c₀, l) (m, l₁) → p ≡ plan m
+      → (c, l₂) ≡ begin_of p l₁ → Passes Turn xs (c, l₂) (e, l₃) → (r, l₄) ≡ finish_of p e sets copies l₃ → Says l₄ r
+  said due c₀ m c e p r l₁ l₂ l₃ l₄ at_first first plans begins second finishes =
+      subst (λ (z : Filled × List ℕ). Says z.1 z.0) (sym (finishes ∙ ap (λ (t : Filled). finish_of t e sets copies l₃) plans))
+      (due (m, l₁) (e, l₃) (subst (λ (t : Tally). Passes Turn xs (t, l) (m, l₁)) at_first first)
+      (subst (λ (z : Held). Passes Turn xs z (e, l₃)) (begins ∙ ap (λ (t : Filled). begin_of t l₁) plans) second))

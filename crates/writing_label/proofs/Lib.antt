@@ -1,11 +1,5 @@
 -- a pass over elements of which each has a text or none
 pub mod TallyLaws
--- elements and a tally, as data that is passed
-pub mod Elems
--- a buffer that is lent again for a call
-pub mod Lends
--- a label that is written in two passes, as one law
-pub mod Walk
 -- two passes are what is due
 pub mod PlanLaws
 -- the print line

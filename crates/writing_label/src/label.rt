@@ -1,6 +1,5 @@
 // A label as EPL: `N`, its elements, its print line. Its elements are measured first, so that a refused call stores
-// nothing. The borrow checker covers no function over a slice of structs: `pass` is an instance of a law of
-// `lent_lists`, and `write_label` is walked by hand.
+// nothing. What a loop that passes a list has to know of lists is in the crate `lent_lists`.
 ghost use Rattle.std.specs.Prelude.{◌≡◌, ◌+◌, ◌≤◌, length};
 ghost use Rattle.elements.specs.Given.{Fills, given_of};
 ghost use Rattle.lent_lists.specs.Passed.{Passes};

@@ -3,7 +3,7 @@ ghost use Rattle.std.specs.Prelude.{◌≡◌};
 ghost use Rattle.writing_label.specs.Tally.{onto, stopped_of, after_of};
 
 // What is known of the elements behind.
-#[derive(Drop)]
+#[derive(Clone, Copy)]
 pub struct Tally {
     // How many are commands.
     pub number: usize,

@@ -1,2 +1,4 @@
 // Which elements a line or a block yields, by the fields of their structs.
+#![tactic(auto)]
+
 pub mod fine;

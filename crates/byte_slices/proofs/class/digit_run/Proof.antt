@@ -25,27 +25,27 @@ module _ (s : List ℕ) (i : ℕ) where
   run_end : length s ≤ i → digit_run (drop i s) ≡ zero
   run_end h = rw (drop_of_length-le s)
 
-abbrev invariant-loop : tie.invariant-loop
+abbrev invariant-loop : tie.invariant-loop-i
 invariant-loop s i₀ i = (i ≤ length s) × (digit_run s ≡ i + digit_run (drop i s))
 
-abbrev decreases-loop : tie.decreases-loop
+abbrev decreases-loop : tie.decreases-loop-i
 decreases-loop s i₀ i = length s - i
 
-loop-again : tie.Need-loop-preserved invariant-loop decreases-loop
+loop-again : tie.Need-loop-i-preserved invariant-loop decreases-loop
 loop-again c =
-    let l = c.before.before.before.before in
-    omega (arith, run_next l.before.before.args.s.now l.loop.i (search rules) (sym c.before.is_digit.ensures ∙ c.if1.true))
+    let l = c in
+    omega (arith, run_next l.args.s.now l.loop-i.i (search rules) (sym c.is_digit.ensures ∙ c.if-is_digit.true))
 
-returns : tie.Need-returns invariant-loop decreases-loop
+returns : tie.Need-returns-else-is_digit invariant-loop decreases-loop
 returns c =
-    let l = c.before.before.before.before in
-    omega (arith, run_other l.before.before.args.s.now l.loop.i (search rules) (sym c.before.is_digit.ensures ∙ c.if1.false))
+    let l = c in
+    omega (arith, run_other l.args.s.now l.loop-i.i (search rules) (sym c.is_digit.ensures ∙ c.if-is_digit.false))
 
-returns-2 : tie.Need-returns-2 invariant-loop decreases-loop
-returns-2 c = omega (arith, run_end c.before.before.before.args.s.now c.before.loop.i c.loop-test.false)
+returns-2 : tie.Need-returns-after-loop-i invariant-loop decreases-loop
+returns-2 c = omega (arith, run_end c.args.s.now c.loop-i.i c.loop-i-test.false)
 
-pub digit-run-spec : {M : Type 1} → statement M
-digit-run-spec =
+pub digit_run_spec : {M : Type 1} → statement M
+digit_run_spec =
     tie.close
     (tie.spec invariant-loop decreases-loop (λ c. search rules) (λ c. search rules) (λ c κs. search rules) (λ c. search rules)
     (λ c. search rules)

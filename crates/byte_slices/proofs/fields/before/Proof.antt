@@ -11,5 +11,5 @@ returns : tie.Need-returns
 unfolding before
 returns c = cc
 
-pub before-spec : {M : Type 1} → statement M
-before-spec = tie.close (tie.spec (λ c κs. search rules) (λ c. simp length-take (omega arith)) returns)
+pub before_spec : {M : Type 1} → statement M
+before_spec = tie.close (tie.spec (λ c κs. search rules) (λ c. simp length-take (omega arith)) returns)

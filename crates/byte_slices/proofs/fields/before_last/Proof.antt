@@ -11,32 +11,32 @@ use Rattle.text.proofs.FieldsLaws.{last_skip, last_here, last_none}
 use Rattle.byte_slices.proofs.fields.before_last.Statement.{statement}
 use Rattle.byte_slices.proofs.fields.before_last.Tie as tie
 
-abbrev invariant-loop : tie.invariant-loop
+abbrev invariant-loop : tie.invariant-loop-n
 invariant-loop s b n₀ n = (n ≤ length s) × (before_last b s ≡ before_last b (take n s))
 
-abbrev decreases-loop : tie.decreases-loop
+abbrev decreases-loop : tie.decreases-loop-n
 decreases-loop s b n₀ n = n
 
-loop-holds : tie.Need-loop-init invariant-loop decreases-loop
+loop-holds : tie.Need-loop-n-init invariant-loop decreases-loop
 loop-holds c = (search rules, cc (take-length c.args.s.now))
 
-returns : tie.Need-returns invariant-loop decreases-loop
+returns : tie.Need-returns-then-s-n invariant-loop decreases-loop
 returns c =
-    let l = c.before.before.before.before in
-    sym (l.loop.invariant.1 ∙ last_here l.before.args.b l.before.args.s.now l.loop.n (search rules) (search rules) c.before.if1.true)
+    let l = c in
+    sym (l.loop-n.invariant.1 ∙ last_here l.args.b l.args.s.now l.loop-n.n (search rules) (search rules) c.if-s-n.true)
 
-loop-again : tie.Need-loop-preserved invariant-loop decreases-loop
+loop-again : tie.Need-loop-n-preserved invariant-loop decreases-loop
 loop-again c =
-    let l = c.before.before.before in
-    (search rules, l.loop.invariant.1 ∙ last_skip l.before.args.b l.before.args.s.now l.loop.n (search rules) (search rules) c.if1.false)
+    let l = c in
+    (search rules, l.loop-n.invariant.1 ∙ last_skip l.args.b l.args.s.now l.loop-n.n (search rules) (search rules) c.if-s-n.false)
 
-returns-2 : tie.Need-returns-2 invariant-loop decreases-loop
+returns-2 : tie.Need-returns invariant-loop decreases-loop
 returns-2 c =
-    let l = c.before.before in
-    sym (l.loop.invariant.1 ∙ last_none l.before.args.b l.before.args.s.now l.loop.n c.before.loop-test.false)
+    let l = c in
+    sym (l.loop-n.invariant.1 ∙ last_none l.args.b l.args.s.now l.loop-n.n c.loop-n-test.false)
 
-pub before-last-spec : {M : Type 1} → statement M
-before-last-spec =
+pub before_last_spec : {M : Type 1} → statement M
+before_last_spec =
     tie.close (tie.spec invariant-loop decreases-loop loop-holds (λ c. search rules) (λ c. search rules)
     (λ c. simp length-take (omega arith)) returns (λ c. search rules)
     loop-again (λ c. search rules)

@@ -11,44 +11,44 @@ use Rattle.text.proofs.WordLaws.{mark_near, mark_first, mark_none}
 use Rattle.byte_slices.proofs.scan.near.Statement.{statement}
 use Rattle.byte_slices.proofs.scan.near.Tie as tie
 
-abbrev invariant-loop : tie.invariant-loop
+abbrev invariant-loop : tie.invariant-loop-i
 invariant-loop a b i₀ i = (i ≤ 96) × (i % 8 ≡ 0) × None a b 0 i
 
-abbrev decreases-loop : tie.decreases-loop
+abbrev decreases-loop : tie.decreases-loop-i
 decreases-loop a b i₀ i = 96 - i
 
-returns : tie.Need-returns invariant-loop decreases-loop
-returns c = near_short c.before.before.args.a.now c.before.before.args.b c.if1.true
+returns : tie.Need-returns-then-a-lt-NEAR invariant-loop decreases-loop
+returns c = near_short c.args.a.now c.args.b c.if-a-lt-NEAR.true
 
 -- the first b is among these eight
-near : (c : tie.Then2 invariant-loop decreases-loop) → count_trailing_zeros 64 c.before.marks.result / 8 < 8
+near : (c : tie.Then-m-ne0 invariant-loop decreases-loop) → count_trailing_zeros 64 c.marks-m.result / 8 < 8
 near c =
-    let l = c.before.before.before in
-    let s = l.before.before.before.args in
-    mark_near s.a.now s.b l.loop.i c.before.marks.ensures c.if2.true
+    let l = c in
+    let s = l.args in
+    mark_near s.a.now s.b l.loop-i.i c.marks-m.ensures c.if-m-ne0.true
 
-returns-2 : tie.Need-returns-2 invariant-loop decreases-loop
+returns-2 : tie.Need-returns-then-m-ne0 invariant-loop decreases-loop
 returns-2 c =
-    let l = c.before.before.before in
-    let s = l.before.before.before.args in
+    let l = c in
+    let s = l.args in
     let h = near c in
-    let f = mark_first s.a.now s.b l.loop.i c.before.marks.ensures in
-    near_first (omega arith) (record { low = omega arith; high = omega arith; before = none_join l.loop.invariant.2 f.before; found = λ q. f.found (omega arith) })
+    let f = mark_first s.a.now s.b l.loop-i.i c.marks-m.ensures in
+    near_first (omega arith) (record { low = omega arith; high = omega arith; before = none_join l.loop-i.invariant.2 f.before; found = λ q. f.found (omega arith) })
 
-loop-again : tie.Need-loop-preserved invariant-loop decreases-loop
+loop-again : tie.Need-loop-i-preserved invariant-loop decreases-loop
 loop-again c =
-    let l = c.before.before.before in
-    let s = l.before.before.before.args in
-    (omega arith, omega arith, none_join l.loop.invariant.2 (mark_none s.a.now s.b l.loop.i c.before.marks.ensures c.if2.false))
+    let l = c in
+    let s = l.args in
+    (omega arith, omega arith, none_join l.loop-i.invariant.2 (mark_none s.a.now s.b l.loop-i.i c.marks-m.ensures c.if-m-ne0.false))
 
-returns-3 : tie.Need-returns-3 invariant-loop decreases-loop
+returns-3 : tie.Need-returns invariant-loop decreases-loop
 returns-3 c =
-    let l = c.before in
-    let e : l.loop.i ≡ 96 = omega arith in
-    near_first (omega arith) (record { low = omega arith; high = omega arith; before = rw e at l.loop.invariant.2; found = λ h. absurd (omega arith) })
+    let l = c in
+    let e : l.loop-i.i ≡ 96 = omega arith in
+    near_first (omega arith) (record { low = omega arith; high = omega arith; before = rw e at l.loop-i.invariant.2; found = λ h. absurd (omega arith) })
 
-pub near-spec : {M : Type 1} → statement M
-near-spec =
+pub near_spec : {M : Type 1} → statement M
+near_spec =
     tie.close (tie.spec invariant-loop decreases-loop returns (λ c. search rules) (λ c. search rules) (λ c κs. search rules)
     (λ c. let h = near c in record { fits = omega arith }) (λ c. let h = near c in record { fits = omega arith })
     returns-2 (λ c. search rules) (λ c. search rules)

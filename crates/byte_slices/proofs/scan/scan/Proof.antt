@@ -10,33 +10,33 @@ use Rattle.text.proofs.ScanLaws.{none_join, first_join}
 use Rattle.byte_slices.proofs.scan.scan.Statement.{statement}
 use Rattle.byte_slices.proofs.scan.scan.Tie as tie
 
-abbrev invariant-loop : tie.invariant-loop
+abbrev invariant-loop : tie.invariant-loop-i
 invariant-loop a b i₀ i = (i ≤ length a) × None a b 0 i
 
-abbrev decreases-loop : tie.decreases-loop
+abbrev decreases-loop : tie.decreases-loop-i
 decreases-loop a b i₀ i = length a - i
 
-returns : tie.Need-returns invariant-loop decreases-loop
+returns : tie.Need-returns-then-k-lt64 invariant-loop decreases-loop
 returns c =
-    let l = c.before.before.before.loop in
-    let f = c.before.window.ensures in
+    let l = c.loop-i in
+    let f = c.window-k.ensures in
     record { low = omega arith; high = omega arith; before = none_join l.invariant.1 f.before; found = λ h. f.found (omega arith) }
 
-loop-again : tie.Need-loop-preserved invariant-loop decreases-loop
+loop-again : tie.Need-loop-i-preserved invariant-loop decreases-loop
 loop-again c =
-    let l = c.before.before.before.loop in
-    let f = c.before.window.ensures in
-    let e : c.before.window.result ≡ 64 = omega arith in
+    let l = c.loop-i in
+    let f = c.window-k.ensures in
+    let e : c.window-k.result ≡ 64 = omega arith in
     (omega arith, none_join l.invariant.1 (rw e at f.before))
 
-returns-2 : tie.Need-returns-2 invariant-loop decreases-loop
+returns-2 : tie.Need-returns invariant-loop decreases-loop
 returns-2 c =
-    let l = c.before.before.before.loop in
-    let p = c.before.by-four.ensures in
+    let l = c.loop-i in
+    let p = c.by_four.ensures in
     first_join (omega arith) (none_join l.invariant.1 p.before) c.by_one.ensures
 
-pub scan-spec : {M : Type 1} → statement M
-scan-spec =
+pub scan_spec : {M : Type 1} → statement M
+scan_spec =
     tie.close
     (tie.spec invariant-loop decreases-loop (λ c. search rules) (λ c. search rules) (λ c κs. search rules) (λ c. search rules)
     (λ c. search rules)

@@ -8,29 +8,29 @@ use Rattle.text.proofs.Utf8Steps.{left_lt, Counted, count_step, count_most, coun
 use Rattle.byte_slices.proofs.utf8.decoded_len.Statement.{statement}
 use Rattle.byte_slices.proofs.utf8.decoded_len.Tie as tie
 
-abbrev invariant-loop : tie.invariant-loop
+abbrev invariant-loop : tie.invariant-loop-t
 invariant-loop s most n₀ t₀ n t = Counted s most n t
 
-abbrev decreases-loop : tie.decreases-loop
+abbrev decreases-loop : tie.decreases-loop-t
 decreases-loop s most n₀ t₀ n t = length t
 
-returns : tie.Need-returns invariant-loop decreases-loop
+returns : tie.Need-returns-then-most-n invariant-loop decreases-loop
 returns c =
-    let p = c.before.before.before in
-    count_most p.before.loop-test.true p.part-len.ensures c.before.shown-len.ensures p.before.before.loop.invariant c.if1.true
+    let p = c in
+    count_most p.loop-t-test.true p.part_len-k.ensures c.shown_len-m.ensures p.loop-t.invariant c.if-most-n.true
 
-loop-less : tie.Need-loop-smaller invariant-loop decreases-loop
-loop-less c = let p = c.before.before.before.before in left_lt p.before.loop-test.true p.part-len.ensures
+loop-less : tie.Need-loop-t-smaller invariant-loop decreases-loop
+loop-less c = let p = c in left_lt p.loop-t-test.true p.part_len-k.ensures
 
-loop-again : tie.Need-loop-preserved invariant-loop decreases-loop
+loop-again : tie.Need-loop-t-preserved invariant-loop decreases-loop
 loop-again c =
-    let shown = c.before.before in
+    let shown = c in
     let p = shown.before.before in
-    count_step p.before.loop-test.true p.part-len.ensures shown.shown-len.ensures p.before.before.loop.invariant c.before.if1.false
+    count_step p.loop-t-test.true p.part_len-k.ensures shown.shown_len-m.ensures p.loop-t.invariant c.if-most-n.false
 
-pub decoded-len-spec : {M : Type 1} → statement M
-decoded-len-spec =
+pub decoded_len_spec : {M : Type 1} → statement M
+decoded_len_spec =
     tie.close (tie.spec invariant-loop decreases-loop (λ c. search rules) (λ c κs. search rules)
     (λ c. simp length-take (omega arith)) (λ c κs. search rules) (λ c. search rules)
     returns (λ c. search rules) (λ c. search rules) (λ c. search rules) (λ c. search rules)
-    loop-less loop-again (λ c. count_end c.before.loop.invariant c.loop-test.false))
+    loop-less loop-again (λ c. count_end c.loop-t.invariant c.loop-t-test.false))

@@ -5,17 +5,17 @@ use Rattle.text.specs.Utf8.{high}
 use Rattle.byte_slices.proofs.utf8.high.Statement.{statement}
 use Rattle.byte_slices.proofs.utf8.high.Tie as tie
 
-returns : tie.Need-returns
+returns : tie.Need-returns-then-a-eq237
 unfolding high
-returns c = simp (eq-eqb _ _ c.if1.true)
+returns c = simp (eq-eqb _ _ c.if-a-eq237.true)
 
-returns-2 : tie.Need-returns-2
+returns-2 : tie.Need-returns-then-a-eq244
 unfolding high
-returns-2 c = simp (ne_eqb _ _ c.before.if1.false, eq-eqb _ _ c.if2.true)
+returns-2 c = simp (ne_eqb _ _ c.if-a-eq237.false, eq-eqb _ _ c.if-a-eq244.true)
 
-returns-3 : tie.Need-returns-3
+returns-3 : tie.Need-returns
 unfolding high
-returns-3 c = simp (ne_eqb _ _ c.before.if1.false, ne_eqb _ _ c.if2.false)
+returns-3 c = simp (ne_eqb _ _ c.if-a-eq237.false, ne_eqb _ _ c.if-a-eq244.false)
 
-pub high-spec : {M : Type 1} → statement M
-high-spec = tie.close (tie.spec returns returns-2 returns-3)
+pub high_spec : {M : Type 1} → statement M
+high_spec = tie.close (tie.spec returns returns-2 returns-3)

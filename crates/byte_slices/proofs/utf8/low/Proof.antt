@@ -5,17 +5,17 @@ use Rattle.text.specs.Utf8.{low}
 use Rattle.byte_slices.proofs.utf8.low.Statement.{statement}
 use Rattle.byte_slices.proofs.utf8.low.Tie as tie
 
-returns : tie.Need-returns
+returns : tie.Need-returns-then-a-eq224
 unfolding low
-returns c = simp (eq-eqb _ _ c.if1.true)
+returns c = simp (eq-eqb _ _ c.if-a-eq224.true)
 
-returns-2 : tie.Need-returns-2
+returns-2 : tie.Need-returns-then-a-eq240
 unfolding low
-returns-2 c = simp (ne_eqb _ _ c.before.if1.false, eq-eqb _ _ c.if2.true)
+returns-2 c = simp (ne_eqb _ _ c.if-a-eq224.false, eq-eqb _ _ c.if-a-eq240.true)
 
-returns-3 : tie.Need-returns-3
+returns-3 : tie.Need-returns
 unfolding low
-returns-3 c = simp (ne_eqb _ _ c.before.if1.false, ne_eqb _ _ c.if2.false)
+returns-3 c = simp (ne_eqb _ _ c.if-a-eq224.false, ne_eqb _ _ c.if-a-eq240.false)
 
-pub low-spec : {M : Type 1} → statement M
-low-spec = tie.close (tie.spec returns returns-2 returns-3)
+pub low_spec : {M : Type 1} → statement M
+low_spec = tie.close (tie.spec returns returns-2 returns-3)

@@ -7,36 +7,36 @@ use Rattle.text.specs.Utf8.{need}
 use Rattle.byte_slices.proofs.utf8.need.Statement.{statement}
 use Rattle.byte_slices.proofs.utf8.need.Tie as tie
 
-returns : tie.Need-returns
+returns : tie.Need-returns-then-a-lt128
 unfolding need
-returns c = simp (lt-ltb _ _ c.if1.true)
+returns c = simp (lt-ltb _ _ c.if-a-lt128.true)
 
-returns-2 : tie.Need-returns-2
+returns-2 : tie.Need-returns-then-within
 unfolding need
-returns-2 c = simp (le-ltb _ _ c.before.before.if1.false, sym c.before.within.ensures ∙ c.if2.true)
+returns-2 c = simp (le-ltb _ _ c.if-a-lt128.false, sym c.within.ensures ∙ c.if-within.true)
 
-returns-3 : tie.Need-returns-3
+returns-3 : tie.Need-returns-then-within-2
 unfolding need
 returns-3 c =
-    let w = c.before.before in
-    simp (le-ltb _ _ w.before.before.if1.false, sym w.before.within.ensures ∙ w.if2.false, sym c.before.within2.ensures ∙ c.if3.true)
+    let w = c in
+    simp (le-ltb _ _ w.if-a-lt128.false, sym w.within.ensures ∙ w.if-within.false, sym c.within-2.ensures ∙ c.if-within-2.true)
 
-returns-4 : tie.Need-returns-4
+returns-4 : tie.Need-returns-then-within-3
 unfolding need
 returns-4 c =
-    let v = c.before.before in
-    let w = v.before.before in
-    simp (le-ltb _ _ w.before.before.if1.false, sym w.before.within.ensures ∙ w.if2.false, sym v.before.within2.ensures ∙ v.if3.false, sym c.before.within3.ensures ∙ c.if4.true)
+    let v = c in
+    let w = v in
+    simp (le-ltb _ _ w.if-a-lt128.false, sym w.within.ensures ∙ w.if-within.false, sym v.within-2.ensures ∙ v.if-within-2.false, sym c.within-3.ensures ∙ c.if-within-3.true)
 
-returns-5 : tie.Need-returns-5
+returns-5 : tie.Need-returns
 unfolding need
 returns-5 c =
-    let v = c.before.before in
-    let w = v.before.before in
-    simp (le-ltb _ _ w.before.before.if1.false, sym w.before.within.ensures ∙ w.if2.false, sym v.before.within2.ensures ∙ v.if3.false, sym c.before.within3.ensures ∙ c.if4.false)
+    let v = c in
+    let w = v in
+    simp (le-ltb _ _ w.if-a-lt128.false, sym w.within.ensures ∙ w.if-within.false, sym v.within-2.ensures ∙ v.if-within-2.false, sym c.within-3.ensures ∙ c.if-within-3.false)
 
-pub need-spec : {M : Type 1} → statement M
-need-spec =
+pub need_spec : {M : Type 1} → statement M
+need_spec =
     tie.close (tie.spec returns (λ c κs. search rules)
     returns-2 (λ c κs. search rules)
     returns-3 (λ c κs. search rules)

@@ -8,8 +8,8 @@ use Rattle.text.proofs.WroteLaws.{wrote}
 use Rattle.byte_slices.proofs.utf8.put_replacement.Statement.{statement}
 use Rattle.byte_slices.proofs.utf8.put_replacement.Tie as tie
 
-pub put-replacement-spec : {M : Type 1} → statement M
-put-replacement-spec =
+pub put_replacement_spec : {M : Type 1} → statement M
+put_replacement_spec =
     tie.close (tie.spec (λ c. search rules) (λ c. search rules)
     (λ c. simp length-set (omega arith)) (λ c. search rules)
     (λ c. simp length-set (omega arith)) (λ c. search rules)

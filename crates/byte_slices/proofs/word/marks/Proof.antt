@@ -7,12 +7,12 @@ use Rattle.text.proofs.WordLaws.{rep, zero_marks, word_marks}
 use Rattle.byte_slices.proofs.word.marks.Statement.{statement}
 use Rattle.byte_slices.proofs.word.marks.Tie as tie
 
-add-t : tie.Need-overflow-add-t
-add-t c = let h = and_le_r (bit_xor c.before.eight.result (c.wide.result * 0x0101010101010101)) 0x7f7f7f7f7f7f7f7f in record { fits = omega arith }
+add-t : tie.Need-overflow_add-t
+add-t c = let h = and_le_r (bit_xor c.eight.result (c.wide.result * 0x0101010101010101)) 0x7f7f7f7f7f7f7f7f in record { fits = omega arith }
 
 returns : tie.Need-returns
 unfolding zero_marks rep
-returns c = word_marks c.before.eight.ensures c.wide.ensures.0 c.wide.ensures.1
+returns c = word_marks c.eight.ensures c.wide.ensures.0 c.wide.ensures.1
 
-pub marks-spec : {M : Type 1} → statement M
-marks-spec = tie.close (tie.spec (λ c κs. search rules) (λ c κs. search rules) (λ c. search rules) add-t returns)
+pub marks_spec : {M : Type 1} → statement M
+marks_spec = tie.close (tie.spec (λ c κs. search rules) (λ c κs. search rules) (λ c. search rules) add-t returns)

@@ -6,10 +6,10 @@ use Rattle.byte_slices.proofs.word.two.Statement.{statement}
 use Rattle.byte_slices.proofs.word.two.Tie as tie
 
 returns : tie.Need-returns
-returns c = (word_two c.before.one.ensures.0 c.one2.ensures.0 refl, search rules)
+returns c = (word_two c.one.ensures.0 c.one-2.ensures.0 refl, search rules)
 
-pub two-spec : {M : Type 1} → statement M
-two-spec =
+pub two_spec : {M : Type 1} → statement M
+two_spec =
     tie.close
     (tie.spec (λ c. search rules) (λ c κs. search rules) (λ c. search rules) (λ c κs. search rules) (λ c. search rules)
     returns)

@@ -9,9 +9,9 @@ use Rattle.dots.proofs.element.convert_element.Tie as tie
 returns : tie.Need-returns
 unfolding converted_element
 returns c =
-    let e = c.before.before.before.args.e in
+    let e = c.args.e in
     c.converted.ensures
-    ∙ ap (λ (l : Lengthened). converted_by l e) (c.before.convert-lengths.ensures ∙ ap lengthened c.before.before.lengths.ensures)
+    ∙ ap (λ (l : Lengthened). converted_by l e) (c.convert_lengths.ensures ∙ ap lengthened c.lengths.ensures)
 
-pub convert-element-spec : {M : Type 1} → statement M
-convert-element-spec = tie.close (tie.spec (λ c κs. search rules) (λ c κs. search rules) (λ c κs. search rules) returns)
+pub convert_element_spec : {M : Type 1} → statement M
+convert_element_spec = tie.close (tie.spec (λ c κs. search rules) (λ c κs. search rules) (λ c κs. search rules) returns)

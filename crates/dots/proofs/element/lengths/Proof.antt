@@ -6,14 +6,14 @@ use Rattle.dots.proofs.element.lengths.Tie as tie
 
 returns : tie.Need-returns
 returns c =
-    let thickness = c.before.before in
-    let height = thickness.before.before in
-    let width = height.before.before in
-    let barred = width.before.before in
-    let e = barred.before.before.args.e in
-    let g = c.struct-told5.given.1.1.1.1.1.1.1.1.1 in
-    rw (width.pick.ensures, height.pick2.ensures, thickness.pick3.ensures, barred.before.is-drawn.ensures, barred.is-barred.ensures)
+    let thickness = c in
+    let height = thickness in
+    let width = height in
+    let barred = width in
+    let e = barred.args.e in
+    let g = c.struct_told-5-1.given.1.1.1.1.1.1.1.1.1 in
+    rw (width.pick-width.ensures, height.pick-height.ensures, thickness.pick-thickness.ensures, barred.is_drawn-drawn.ensures, barred.is_barred.ensures)
     (simp (back32 e.x g.0.1, back32 e.y g.1.0.1, back32 e.width g.1.1.0.1, back32 e.height g.1.1.1.0.1, back32 e.thickness g.1.1.1.1.0.1))
 
-pub lengths-spec : {M : Type 1} → statement M
-lengths-spec = tie.close (tie.spec (λ c κs. search rules) (λ c κs. search rules) (λ c κs. search rules) (λ c κs. search rules) (λ c κs. search rules) returns)
+pub lengths_spec : {M : Type 1} → statement M
+lengths_spec = tie.close (tie.spec (λ c κs. search rules) (λ c κs. search rules) (λ c κs. search rules) (λ c κs. search rules) (λ c κs. search rules) returns)

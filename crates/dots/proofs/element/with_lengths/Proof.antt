@@ -6,14 +6,14 @@ use Rattle.dots.proofs.element.with_lengths.Tie as tie
 
 returns : tie.Need-returns
 returns c =
-    let thickness = c.before in
-    let height = thickness.before.before in
-    let width = height.before.before in
-    let barred = width.before.before.before.before in
-    let e = barred.before.before.args.e in
-    let g = c.struct-told4.given.1.1.1.1.1.1.1.1.1.1.1 in
+    let thickness = c in
+    let height = thickness in
+    let width = height in
+    let barred = width in
+    let e = barred.args.e in
+    let g = c.struct_told-4-1.given.1.1.1.1.1.1.1.1.1.1.1 in
     let f = g.1.1.1.1.1.1.1 in
-    rw (width.choose.ensures, height.choose2.ensures, thickness.choose3.ensures, barred.before.is-drawn.ensures, barred.is-barred.ensures)
+    rw (width.choose-width.ensures, height.choose-height.ensures, thickness.choose-thickness.ensures, barred.is_drawn-drawn.ensures, barred.is_barred.ensures)
     (simp (
       back32 e.width g.0.1,
       back32 e.height g.1.0.1,
@@ -31,5 +31,5 @@ returns c =
       back32 e.wide f.1.1.1.1.1.1.0.1,
     ))
 
-pub with-lengths-spec : {M : Type 1} → statement M
-with-lengths-spec = tie.close (tie.spec (λ c κs. search rules) (λ c κs. search rules) (λ c κs. search rules) (λ c κs. search rules) (λ c κs. search rules) returns)
+pub with_lengths_spec : {M : Type 1} → statement M
+with_lengths_spec = tie.close (tie.spec (λ c κs. search rules) (λ c κs. search rules) (λ c κs. search rules) (λ c κs. search rules) (λ c κs. search rules) returns)

@@ -7,13 +7,13 @@ use borrow.Author.Rules.{rules}
 use Rattle.dots.proofs.length.falling.Statement.{statement}
 use Rattle.dots.proofs.length.falling.Tie as tie
 
-returns : tie.Need-returns
+returns : tie.Need-returns-then-z-lt2147483648
 returns c =
-    let k = c.before.before.args.k in
-    rw (back32 c.below.result c.below.type-inv, c.below.ensures) (converted_at (negsuc k) (negsuc ((k * 600 + 396) / 406)) (to300_neg k) c.before.if1.true)
+    let k = c.args.k in
+    rw (back32 c.below.result c.below.type_inv, c.below.ensures) (converted_at (negsuc k) (negsuc ((k * 600 + 396) / 406)) (to300_neg k) c.if-z-lt2147483648.true)
 
-returns-2 : tie.Need-returns-2
-returns-2 c = let k = c.before.args.k in converted_past (negsuc k) (negsuc ((k * 600 + 396) / 406)) (to300_neg k) c.if1.false
+returns-2 : tie.Need-returns
+returns-2 c = let k = c.args.k in converted_past (negsuc k) (negsuc ((k * 600 + 396) / 406)) (to300_neg k) c.if-z-lt2147483648.false
 
-pub falling-spec : {M : Type 1} → statement M
-falling-spec = tie.close (tie.spec (λ c. search rules) (λ c. search rules) (λ c κs. search rules) returns returns-2)
+pub falling_spec : {M : Type 1} → statement M
+falling_spec = tie.close (tie.spec (λ c. search rules) (λ c. search rules) (λ c κs. search rules) returns returns-2)

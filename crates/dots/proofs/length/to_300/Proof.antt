@@ -11,26 +11,26 @@ use borrow.Author.Rules.{rules}
 use Rattle.dots.proofs.length.to_300.Statement.{statement}
 use Rattle.dots.proofs.length.to_300.Tie as tie
 
-small : (c : tie.After-bits) → mag c.before.before.args.n.0 < 2147483648
-small c = c.before.struct_told.given.0.1
+small : (c : tie.After-bits-b) → mag c.args.n.0 < 2147483648
+small c = c.struct_told-1.given.0.1
 
-its_bits : (c : tie.After-bits) → c.bits.result ≡ twos c.before.before.args.n.0
-its_bits c = simp (back32 c.before.before.args.n.0 (small c)) at c.bits.ensures
+its_bits : (c : tie.After-bits-b) → c.bits-b.result ≡ twos c.args.n.0
+its_bits c = simp (back32 c.args.n.0 (small c)) at c.bits-b.ensures
 
-low : (c : tie.Then1) → c.before.before.before.args.n.0 ≡ pos c.before.bits.result
-low c = twos_low c.before.before.before.args.n.0 c.before.bits.result (small c.before) (its_bits c.before) c.if1.true
+low : (c : tie.Then-b-lt2147483648) → c.args.n.0 ≡ pos c.bits-b.result
+low c = twos_low c.args.n.0 c.bits-b.result (small c.before) (its_bits c.before) c.if-b-lt2147483648.true
 
-high : (c : tie.Else1) → c.before.before.before.args.n.0 ≡ negsuc (4294967295 - c.before.bits.result)
-high c = twos_high c.before.before.before.args.n.0 c.before.bits.result (small c.before) (its_bits c.before) c.if1.false
+high : (c : tie.Else-b-lt2147483648) → c.args.n.0 ≡ negsuc (4294967295 - c.bits-b.result)
+high c = twos_high c.args.n.0 c.bits-b.result (small c.before) (its_bits c.before) c.if-b-lt2147483648.false
 
-returns : tie.Need-returns
+returns : tie.Need-returns-then-b-lt2147483648
 returns c = c.rising.ensures ∙ sym (ap (λ (z : ℤ). converted (to300 z)) (low c.before))
 
-returns-2 : tie.Need-returns-2
+returns-2 : tie.Need-returns
 returns-2 c = c.falling.ensures ∙ sym (ap (λ (z : ℤ). converted (to300 z)) (high c.before))
 
-pub to-300-spec : {M : Type 1} → statement M
-to-300-spec =
+pub to_300_spec : {M : Type 1} → statement M
+to_300_spec =
     tie.close
     (tie.spec
     (λ c κs. search rules)

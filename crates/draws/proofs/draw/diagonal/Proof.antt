@@ -7,14 +7,13 @@ use borrow.Author.Rules.{rules}
 use Rattle.draws.proofs.draw.diagonal.Statement.{statement}
 use Rattle.draws.proofs.draw.diagonal.Tie as tie
 
-returns : tie.Need-returns
+returns : tie.Need-returns-in-At
 returns c =
-    let known = c.struct_told.given in
-    let sized = c.before.before.before in let d = sized.d.given in
-    rw (back32 d.0.0.width known.1.0.1, back32 d.0.0.height known.1.1.0.1, to_z-of_z sized.before.before.ranges.thickness)
-    (simp d.1)
+    let known = c.struct_told-1.given in
+    let sized = c in rw (back32 sized.in-At.at.width known.1.0.1, back32 sized.in-At.at.height known.1.1.0.1, to_z-of_z sized.ranges.thickness)
+    (simp sized.in-At.is)
 
-pub diagonal-spec : {M : Type 1} → statement M
-diagonal-spec =
+pub diagonal_spec : {M : Type 1} → statement M
+diagonal_spec =
     tie.close (tie.spec (λ c. search rules) (λ c. search rules) (λ c. search rules)
-    returns (λ c. simp c.enum_told.given.1) (λ c. simp c.enum-told2.given.1))
+    returns (λ c. simp c.in-Outside.is) (λ c. simp c.in-SizeOutside.is))

@@ -6,8 +6,8 @@ use borrow.Author.Rules.{rules}
 use Rattle.file_listing.proofs.listing.end_len.Statement.{statement}
 use Rattle.file_listing.proofs.listing.end_len.Tie as tie
 
-returns-2 : tie.Need-returns-2
-returns-2 c = sym (length_pending c.before.args.n (omega arith))
+returns-2 : tie.Need-returns-else-n-eq0
+returns-2 c = sym (length_pending c.args.n (omega arith))
 
-pub end-len-spec : {M : Type 1} → statement M
-end-len-spec = tie.close (tie.spec (λ c. search rules) returns-2)
+pub end_len_spec : {M : Type 1} → statement M
+end_len_spec = tie.close (tie.spec (λ c. search rules) returns-2)

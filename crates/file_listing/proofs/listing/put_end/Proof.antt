@@ -7,14 +7,14 @@ use borrow.Author.Rules.{rules}
 use Rattle.file_listing.proofs.listing.put_end.Statement.{statement}
 use Rattle.file_listing.proofs.listing.put_end.Tie as tie
 
-put-pending-requires : tie.Need-put-pending-requires
-put-pending-requires c κs = omega (arith, length_pending c.before.before.before.args.n c.before.if1.true)
+put-pending-requires : tie.Need-put_pending-requires
+put-pending-requires c κs = omega (arith, length_pending c.args.n c.if-n-gt0.true)
 
-returns : tie.Need-returns
-returns c = let put = c.before.before in rw (pending_some put.before.before.before.before.args.n (omega arith)) put.put-pending.ensures
+returns : tie.Need-returns-then-n-gt0
+returns c = let put = c in rw (pending_some put.args.n (omega arith)) put.put_pending.ensures
 
-returns-2 : tie.Need-returns-2
-returns-2 c = rw (pending_none c.before.before.args.n c.if1.false) (record { wrote = wrote refl; next = omega arith })
+returns-2 : tie.Need-returns
+returns-2 c = rw (pending_none c.args.n c.if-n-gt0.false) (record { wrote = wrote refl; next = omega arith })
 
-pub put-end-spec : {M : Type 1} → statement M
-put-end-spec = tie.close (tie.spec put-pending-requires (λ c. search rules) returns returns-2)
+pub put_end_spec : {M : Type 1} → statement M
+put_end_spec = tie.close (tie.spec put-pending-requires (λ c. search rules) returns returns-2)

@@ -22,24 +22,24 @@ put_both {m} {n} {l} {at} {j} {r} xs ys a b =
       next = omega (arith, a.next, b.next, length-append xs ys);
     }
 
-put-label-frame-requires : tie.Need-put-label-frame-requires
-put-label-frame-requires c κs = let a = c.before.before.before.before.args in omega (arith, length_label a.p.count a.p.counts (front_frames a.input.now a.first))
+put-label-frame-requires : tie.Need-put_label_frame-to-requires
+put-label-frame-requires c κs = let a = c.args in omega (arith, length_label a.p.count a.p.counts (front_frames a.input.now a.first))
 
-put-elements-requires : tie.Need-put-elements-requires
+put-elements-requires : tie.Need-put_elements-requires
 put-elements-requires c κs =
-    let k = c.before.before.before in
-    let counts = k.before.before in
-    let a = counts.before.before.before.args in
-    let w = k.put-label-frame.ensures in
+    let k = c in
+    let counts = k in
+    let a = counts.args in
+    let w = k.put_label_frame-to.ensures in
     omega (arith, length_label a.p.count a.p.counts (front_frames a.input.now a.first), w.next, w.wrote.long, length_frame a.p.count a.p.counts)
 
 returns : tie.Need-returns
 returns c =
-    let w = c.before.before in
-    let k = w.before.before.before.before in
-    let counts = k.before.before in
-    let a = counts.before.before.before.args in
-    put_both (line_of (label_frame a.p.count a.p.counts)) (lines_of (front_frames a.input.now a.first)) k.put-label-frame.ensures w.put-elements.ensures
+    let w = c in
+    let k = w in
+    let counts = k in
+    let a = counts.args in
+    put_both (line_of (label_frame a.p.count a.p.counts)) (lines_of (front_frames a.input.now a.first)) k.put_label_frame-to.ensures w.put_elements.ensures
 
-pub put-label-spec : {M : Type 1} → statement M
-put-label-spec = tie.close (tie.spec put-label-frame-requires put-elements-requires (λ c. search rules) returns)
+pub put_label_spec : {M : Type 1} → statement M
+put_label_spec = tie.close (tie.spec put-label-frame-requires put-elements-requires (λ c. search rules) returns)

@@ -4,19 +4,19 @@ use Rattle.file_listing.proofs.PrintingLaws.{prints_refusal, prints_nothing}
 use Rattle.file_listing.proofs.printing.put_answer.Statement.{statement}
 use Rattle.file_listing.proofs.printing.put_answer.Tie as tie
 
-returns : tie.Need-returns
+returns : tie.Need-returns-then-out-lt13
 returns c =
-    let refused = c.before.before in
-    rw refused.a2.given.1 (prints_nothing refused.before.before.before.args.out.now _ _ c.if1.true)
+    let refused = c in
+    rw refused.in-Refused.is (prints_nothing refused.args.out.now _ _ c.if-out-lt13.true)
 
-returns-3 : tie.Need-returns-3
+returns-3 : tie.Need-returns-else-out-lt13
 returns-3 c =
-    let q = c.before.before in
-    let e = q.before.before.before in
-    rw e.before.before.a2.given.1 (prints_refusal e.if1.false (rw q.before.number.ensures at q.put-refusal.ensures))
+    let q = c in
+    let e = q in
+    rw e.in-Refused.is (prints_refusal e.if-out-lt13.false (rw q.number.ensures at q.put_refusal.ensures))
 
-pub put-answer-spec : {M : Type 1} → statement M
-put-answer-spec =
+pub put_answer_spec : {M : Type 1} → statement M
+put_answer_spec =
     tie.close
     (tie.spec
     (λ c. search rules)

@@ -8,10 +8,10 @@ use Rattle.frame_bytes.proofs.data.part.Tie as tie
 
 returns : tie.Need-returns
 returns c =
-    let s = c.before.before.before.before.args in
-    c.first.ensures ∙ part_is s.input.now s.d c.before.before.min.result c.before.before.min.ensures
+    let s = c.args in
+    c.first.ensures ∙ part_is s.input.now s.d c.min-start.result c.min-start.ensures
 
-pub part-spec : {M : Type 1} → statement M
-part-spec =
+pub part_spec : {M : Type 1} → statement M
+part_spec =
     tie.close
     (tie.spec (λ c κs. search rules) (λ c. search rules) (λ c. search rules) (λ c. search rules) (λ c κs. search rules) returns)

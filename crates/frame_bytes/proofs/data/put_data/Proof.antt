@@ -7,29 +7,29 @@ use borrow.Author.Rules.{rules}
 use Rattle.frame_bytes.proofs.data.put_data.Statement.{statement}
 use Rattle.frame_bytes.proofs.data.put_data.Tie as tie
 
-put-payload-requires : tie.Need-put-payload-requires
-put-payload-requires c κs = let at = c.before.before in omega (arith, data_size_is at.before.before.before.before.args.input.now at.d.given.1)
+put-payload-requires : tie.Need-put_payload-requires
+put-payload-requires c κs = let at = c in omega (arith, data_size_is at.args.input.now at.in-Payload.is)
 
-put-decoded-data-requires : tie.Need-put-decoded-data-requires
-put-decoded-data-requires c κs = let at = c.before.before in omega (arith, data_size_is at.before.before.before.before.args.input.now at.d2.given.1)
+put-decoded-data-requires : tie.Need-put_decoded_data-requires
+put-decoded-data-requires c κs = let at = c in omega (arith, data_size_is at.args.input.now at.in-Decoded.is)
 
-returns : tie.Need-returns
-returns c = data_told c.before.before.before.before.args.input.now c.enum_told.given.1 (nothing _ _)
+returns : tie.Need-returns-in-NoData
+returns c = data_told c.args.input.now c.in-NoData.is (nothing _ _)
 
-returns-2 : tie.Need-returns-2
+returns-2 : tie.Need-returns-in-Payload
 returns-2 c =
-    let put = c.before.before in
-    let at = put.before.before.before in
-    data_told at.before.before.before.before.args.input.now at.d.given.1 put.put_payload.ensures
+    let put = c in
+    let at = put in
+    data_told at.args.input.now at.in-Payload.is put.put_payload.ensures
 
-returns-3 : tie.Need-returns-3
+returns-3 : tie.Need-returns-in-Decoded
 returns-3 c =
-    let put = c.before.before in
-    let at = put.before.before.before in
-    data_told at.before.before.before.before.args.input.now at.d2.given.1 put.put-decoded-data.ensures
+    let put = c in
+    let at = put in
+    data_told at.args.input.now at.in-Decoded.is put.put_decoded_data.ensures
 
-pub put-data-spec : {M : Type 1} → statement M
-put-data-spec =
+pub put_data_spec : {M : Type 1} → statement M
+put_data_spec =
     tie.close
     (tie.spec
     (λ c. search rules)

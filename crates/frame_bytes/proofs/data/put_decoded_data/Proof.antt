@@ -13,20 +13,20 @@ use borrow.Author.Rules.{rules}
 use Rattle.frame_bytes.proofs.data.put_decoded_data.Statement.{statement}
 use Rattle.frame_bytes.proofs.data.put_decoded_data.Tie as tie
 
-put-decoded-requires : tie.Need-put-decoded-requires
-put-decoded-requires c κs = let size = c.before.before.before in omega (arith, ap (λ (l : List ℕ). length (decode l)) size.before.before.before.part.ensures)
+put-decoded-requires : tie.Need-put_decoded-requires
+put-decoded-requires c κs = let size = c in omega (arith, ap (λ (l : List ℕ). length (decode l)) size.part-p.ensures)
 
 returns : tie.Need-returns
 returns c =
-    let put = c.before.before in let size = put.before.before.before.before in
-    let counted = size.before.before in let taken = counted.before in
-    let t = taken.part.ensures in
-    let a = taken.before.before.before.args in
-    let n : counted.decoded-len.result ≡ length (decode (part a.input.now a.d)) = omega (arith, ap (λ (l : List ℕ). length (decode l)) t) in
-    then (retold (ap be32 n) size.put-u32.ensures) (same (ap decode t) put.put-decoded.ensures)
+    let put = c in let size = put in
+    let counted = size in let taken = counted in
+    let t = taken.part-p.ensures in
+    let a = taken.args in
+    let n : counted.decoded_len-n.result ≡ length (decode (part a.input.now a.d)) = omega (arith, ap (λ (l : List ℕ). length (decode l)) t) in
+    then (retold (ap be32 n) size.put_u32-a.ensures) (same (ap decode t) put.put_decoded.ensures)
 
-pub put-decoded-data-spec : {M : Type 1} → statement M
-put-decoded-data-spec =
+pub put_decoded_data_spec : {M : Type 1} → statement M
+put_decoded_data_spec =
     tie.close
     (tie.spec
     (λ c κs. search rules)

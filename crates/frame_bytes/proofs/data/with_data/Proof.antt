@@ -6,17 +6,17 @@ use borrow.Author.Rules.{rules}
 use Rattle.frame_bytes.proofs.data.with_data.Statement.{statement}
 use Rattle.frame_bytes.proofs.data.with_data.Tie as tie
 
-returns : tie.Need-returns
-returns c = omega (arith, data_size_is c.before.before.before.args.input.now c.enum_told.given.1)
+returns : tie.Need-returns-in-NoData
+returns c = omega (arith, data_size_is c.args.input.now c.in-NoData.is)
 
-returns-2 : tie.Need-returns-2
-returns-2 c = let at = c.before.before in omega (arith, data_size_is at.before.before.before.args.input.now at.d.given.1)
+returns-2 : tie.Need-returns-in-Payload
+returns-2 c = let at = c in omega (arith, data_size_is at.args.input.now at.in-Payload.is)
 
-returns-3 : tie.Need-returns-3
-returns-3 c = let at = c.before.before in omega (arith, data_size_is at.before.before.before.args.input.now at.d2.given.1)
+returns-3 : tie.Need-returns-in-Decoded
+returns-3 c = let at = c in omega (arith, data_size_is at.args.input.now at.in-Decoded.is)
 
-pub with-data-spec : {M : Type 1} → statement M
-with-data-spec =
+pub with_data_spec : {M : Type 1} → statement M
+with_data_spec =
     tie.close
     (tie.spec
     (λ c. search rules)

@@ -11,8 +11,8 @@ use Rattle.frame_bytes.proofs.data.with_decoded.Statement.{statement}
 use Rattle.frame_bytes.proofs.data.with_decoded.Tie as tie
 
 returns : tie.Need-returns
-returns c = omega (arith, ap (λ (l : List ℕ). length (decode l)) c.before.part.ensures)
+returns c = omega (arith, ap (λ (l : List ℕ). length (decode l)) c.part.ensures)
 
-pub with-decoded-spec : {M : Type 1} → statement M
-with-decoded-spec =
+pub with_decoded_spec : {M : Type 1} → statement M
+with_decoded_spec =
     tie.close (tie.spec (λ c κs. search rules) (λ c. search rules) (λ c κs. search rules) (λ c. search rules) returns)

@@ -8,7 +8,7 @@ use Rattle.frame_bytes.proofs.data.with_payload.Statement.{statement}
 use Rattle.frame_bytes.proofs.data.with_payload.Tie as tie
 
 returns : tie.Need-returns
-returns c = omega (arith, ap length c.before.part.ensures)
+returns c = omega (arith, ap length c.part.ensures)
 
-pub with-payload-spec : {M : Type 1} → statement M
-with-payload-spec = tie.close (tie.spec (λ c κs. search rules) (λ c. search rules) (λ c κs. search rules) (λ c. search rules) returns)
+pub with_payload_spec : {M : Type 1} → statement M
+with_payload_spec = tie.close (tie.spec (λ c κs. search rules) (λ c. search rules) (λ c κs. search rules) (λ c. search rules) returns)

@@ -10,18 +10,18 @@ use Rattle.frame_bytes.proofs.fields.put_bars.Tie as tie
 returns : tie.Need-returns
 unfolding bar_bytes
 returns c =
-    let line = c.before.before in
-    let height = line.before.before.before.before in let height-told = height.before in
-    let narrow = height-told.before.before.before.before in let narrow-told = narrow.before in
-    let turned = narrow-told.before.before.before.before in
-    let b = turned.before.before.before.args.b in
-    then (then (then turned.put-rotation.ensures
-    (rw (back32 b.narrow narrow-told.struct_told.given.1.0.1) at narrow.put-i32.ensures))
-    (rw (back32 b.height height-told.struct-told2.given.1.1.0.1) at height.put-i322.ensures))
-    line.put-flag.ensures
+    let line = c in
+    let height = line in let height-told = height in
+    let narrow = height-told in let narrow-told = narrow in
+    let turned = narrow-told in
+    let b = turned.args.b in
+    then (then (then turned.put_rotation-a.ensures
+    (rw (back32 b.narrow narrow-told.struct_told-1.given.1.0.1) at narrow.put_i32-c.ensures))
+    (rw (back32 b.height height-told.struct_told-2-1.given.1.1.0.1) at height.put_i32-d.ensures))
+    line.put_flag.ensures
 
-pub put-bars-spec : {M : Type 1} → statement M
-put-bars-spec =
+pub put_bars_spec : {M : Type 1} → statement M
+put_bars_spec =
     tie.close
     (tie.spec
     (λ c κs. search rules)

@@ -5,7 +5,7 @@ use Rattle.frame_bytes.proofs.fields.put_flag.Statement.{statement}
 use Rattle.frame_bytes.proofs.fields.put_flag.Tie as tie
 
 returns : tie.Need-returns
-returns c = rw c.before.before.before.flag.ensures at c.before.before.put_byte.ensures
+returns c = rw c.flag.ensures at c.put_byte.ensures
 
-pub put-flag-spec : {M : Type 1} → statement M
-put-flag-spec = tie.close (tie.spec (λ c κs. search rules) (λ c κs. search rules) (λ c. search rules) returns)
+pub put_flag_spec : {M : Type 1} → statement M
+put_flag_spec = tie.close (tie.spec (λ c κs. search rules) (λ c κs. search rules) (λ c. search rules) returns)

@@ -10,13 +10,13 @@ use Rattle.frame_bytes.proofs.fields.put_head.Tie as tie
 returns : tie.Need-returns
 unfolding head
 returns c =
-    let y = c.before.before in let y-told = y.before in
-    let x = y-told.before.before.before.before in let x-told = x.before in
-    let k = x-told.before.before.before.before in
-    let p = k.before.before.before.args.p in
-    then (then k.put_byte.ensures (rw (back32 p.x x-told.struct_told.given.0.1) at x.put-i32.ensures))
-    (rw (back32 p.y y-told.struct-told2.given.1.0.1) at y.put-i322.ensures)
+    let y = c in let y-told = y in
+    let x = y-told in let x-told = x in
+    let k = x-told in
+    let p = k.args.p in
+    then (then k.put_byte-a.ensures (rw (back32 p.x x-told.struct_told-1.given.0.1) at x.put_i32-b.ensures))
+    (rw (back32 p.y y-told.struct_told-2-1.given.1.0.1) at y.put_i32.ensures)
 
-pub put-head-spec : {M : Type 1} → statement M
-put-head-spec =
+pub put_head_spec : {M : Type 1} → statement M
+put_head_spec =
     tie.close (tie.spec (λ c κs. search rules) (λ c κs. search rules) (λ c κs. search rules) (λ c. search rules) returns)

@@ -9,14 +9,14 @@ use borrow.Author.Rules.{rules}
 use Rattle.frame_bytes.proofs.hex.put_byte.Statement.{statement}
 use Rattle.frame_bytes.proofs.hex.put_byte.Tie as tie
 
-slice-write-out-2 : tie.Need-slice-write-out-2
+slice-write-out-2 : tie.Need-bounds-out-at-2
 slice-write-out-2 c = simp length-set (omega arith)
 
 returns : tie.Need-returns
-returns c = record { wrote = wrote (simp (add-one, c.before.hex-digit.ensures, c.hex-digit2.ensures)); many = refl; next = omega arith }
+returns c = record { wrote = wrote (simp (add-one, c.hex_digit.ensures, c.hex_digit-2.ensures)); many = refl; next = omega arith }
 
-pub put-byte-spec : {M : Type 1} → statement M
-put-byte-spec =
+pub put_byte_spec : {M : Type 1} → statement M
+put_byte_spec =
     tie.close
     (tie.spec
     (λ c κs. search rules)

@@ -21,40 +21,40 @@ module _ (src : List ℕ) {out out₀ : List ℕ} {at i o : ℕ} (p : PutHex out
   copy_end : i ≤ length src → length src ≤ i → PutHex out out₀ at src (length src) o
   copy_end h g = counted (omega arith) (retold (take_all i src g) p)
 
-abbrev invariant-loop : tie.invariant-loop
+abbrev invariant-loop : tie.invariant-loop-i
 invariant-loop src out₀ at i₀ o₀ out i o = (i ≤ length src) × PutHex out out₀ at (take i src) i o
 
-abbrev decreases-loop : tie.decreases-loop
+abbrev decreases-loop : tie.decreases-loop-i
 decreases-loop src out₀ at i₀ o₀ out i o = length src - i
 
-loop-holds : tie.Need-loop-init invariant-loop decreases-loop
+loop-holds : tie.Need-loop-i-init invariant-loop decreases-loop
 loop-holds c = (omega arith, nothing _ _)
 
-shared-slice-read-put-byte : tie.Need-shared-slice-read-put-byte invariant-loop decreases-loop
+shared-slice-read-put-byte : tie.Need-bounds-src-i invariant-loop decreases-loop
 shared-slice-read-put-byte c = search rules
 
-put-byte-requires : tie.Need-put-byte-requires invariant-loop decreases-loop
-put-byte-requires c κs = let h = c.before.before.before.loop.invariant in omega (arith, h.1.wrote.long, h.1.next)
+put-byte-requires : tie.Need-put_byte-o-requires invariant-loop decreases-loop
+put-byte-requires c κs = let h = c.loop-i.invariant in omega (arith, h.1.wrote.long, h.1.next)
 
-add-i : tie.Need-overflow-add-i invariant-loop decreases-loop
+add-i : tie.Need-overflow_add-i invariant-loop decreases-loop
 add-i c = search rules
 
-loop-less : tie.Need-loop-smaller invariant-loop decreases-loop
+loop-less : tie.Need-loop-i-smaller invariant-loop decreases-loop
 loop-less c = search rules
 
-loop-again : tie.Need-loop-preserved invariant-loop decreases-loop
+loop-again : tie.Need-loop-i-preserved invariant-loop decreases-loop
 loop-again c =
-    let put = c.before.before in let more = put.before.before.before in let l = more.before in
-    (omega arith, copy_step l.before.before.before.args.src.now l.loop.invariant.1 more.loop-test.true put.put_byte.ensures)
+    let put = c in let more = put in let l = more in
+    (omega arith, copy_step l.args.src.now l.loop-i.invariant.1 more.loop-i-test.true put.put_byte-o.ensures)
 
-same_length : tie.Need-same-length invariant-loop decreases-loop
-same_length c = c.before.loop.invariant.1.wrote.long
+same_length : tie.Need-shape_of-out invariant-loop decreases-loop
+same_length c = c.loop-i.invariant.1.wrote.long
 
 returns : tie.Need-returns invariant-loop decreases-loop
-returns c = copy_end c.before.before.before.before.args.src.now c.before.loop.invariant.1 c.before.loop.invariant.0 c.loop-test.false
+returns c = copy_end c.args.src.now c.loop-i.invariant.1 c.loop-i.invariant.0 c.loop-i-test.false
 
-pub put-bytes-spec : {M : Type 1} → statement M
-put-bytes-spec =
+pub put_bytes_spec : {M : Type 1} → statement M
+put_bytes_spec =
     tie.close
     (tie.spec
     invariant-loop

@@ -38,61 +38,61 @@ module _ {n l : List ℕ} {at r : ℕ} {all rest : List ℕ} (w : Left n l at r 
   left_none : rest ≡ [] → PutHex n l at all (length all) r
   left_none e = same (sym (w.split ∙ ap (λ (z : List ℕ). w.done ++ z) e ∙ append-nil w.done)) w.put
 
-abbrev invariant-loop : tie.invariant-loop
+abbrev invariant-loop : tie.invariant-loop-t
 invariant-loop src out₀ at o₀ t₀ out o t = (length t ≤ length src) × Left out out₀ at o (decode src) (decode t)
 
-abbrev decreases-loop : tie.decreases-loop
+abbrev decreases-loop : tie.decreases-loop-t
 decreases-loop src out₀ at o₀ t₀ out o t = length t
 
-loop-holds : tie.Need-loop-init invariant-loop decreases-loop
+loop-holds : tie.Need-loop-t-init invariant-loop decreases-loop
 loop-holds c = (omega arith, left_all _ _ _)
 
-part-len-requires : tie.Need-part-len-requires invariant-loop decreases-loop
+part-len-requires : tie.Need-part_len-k-requires invariant-loop decreases-loop
 part-len-requires c κs = search rules
 
-slice-aggregate-put-part : tie.Need-slice-aggregate-put-part invariant-loop decreases-loop
+slice-aggregate-put-part : tie.Need-slice_bounds-put_part-end invariant-loop decreases-loop
 slice-aggregate-put-part c = simp length-take (omega arith)
 
-put-part-requires : tie.Need-put-part-requires invariant-loop decreases-loop
+put-part-requires : tie.Need-put_part-o-requires invariant-loop decreases-loop
 put-part-requires c κs =
-    let l = c.before.before.before.before in
-    omega (arith, left_room l.loop.invariant.1 l.before.before.before.requires, length_left l.loop.t.now c.before.before.part-len.result c.before.before.before.loop-test.true c.before.before.part-len.ensures)
+    let l = c in
+    omega (arith, left_room l.loop-t.invariant.1 l.requires, length_left l.loop-t.t.now c.part_len-k.result c.loop-t-test.true c.part_len-k.ensures)
 
-sub-t : tie.Need-overflow-sub-t invariant-loop decreases-loop
+sub-t : tie.Need-slice_bounds-t-count invariant-loop decreases-loop
 sub-t c = search rules
 
-part-t-start : tie.Need-slice-bounds-t-start invariant-loop decreases-loop
+part-t-start : tie.Need-slice_bounds-t-start invariant-loop decreases-loop
 part-t-start c = search rules
 
-part-t-end : tie.Need-slice-bounds-t-end invariant-loop decreases-loop
+part-t-end : tie.Need-slice_bounds-t-end invariant-loop decreases-loop
 part-t-end c = search rules
 
-loop-less : tie.Need-loop-smaller invariant-loop decreases-loop
+loop-less : tie.Need-loop-t-smaller invariant-loop decreases-loop
 loop-less c =
-    let put = c.before.before.before in let p = put.before.before.before in
-    let l = p.before.before in
-    let h = left_less l.loop.t.now p.part-len.result p.before.loop-test.true p.part-len.ensures in
-    omega (arith, p.part-len.ensures.some p.before.loop-test.true)
+    let put = c in let p = put in
+    let l = p in
+    let h = left_less l.loop-t.t.now p.part_len-k.result p.loop-t-test.true p.part_len-k.ensures in
+    omega (arith, p.part_len-k.ensures.some p.loop-t-test.true)
 
-loop-again : tie.Need-loop-preserved invariant-loop decreases-loop
+loop-again : tie.Need-loop-t-preserved invariant-loop decreases-loop
 loop-again c =
-    let put = c.before.before.before in let p = put.before.before.before in
-    let l = p.before.before in
-    let t = l.loop.t.now in
-    let k = p.part-len.result in
-    let h = left_less t k p.before.loop-test.true p.part-len.ensures in (
+    let put = c in let p = put in
+    let l = p in
+    let t = l.loop-t.t.now in
+    let k = p.part_len-k.result in
+    let h = left_less t k p.loop-t-test.true p.part_len-k.ensures in (
       omega arith,
-      left_step l.loop.invariant.1 (shown (take k t)) (decode (take (length t - k) (drop k t))) (decode_left t k p.before.loop-test.true p.part-len.ensures) put.put-part.ensures,
+      left_step l.loop-t.invariant.1 (shown (take k t)) (decode (take (length t - k) (drop k t))) (decode_left t k p.loop-t-test.true p.part_len-k.ensures) put.put_part-o.ensures,
     )
 
-same_length : tie.Need-same-length invariant-loop decreases-loop
-same_length c = c.before.loop.invariant.1.put.wrote.long
+same_length : tie.Need-shape_of-out invariant-loop decreases-loop
+same_length c = c.loop-t.invariant.1.put.wrote.long
 
 returns : tie.Need-returns invariant-loop decreases-loop
-returns c = left_none c.before.loop.invariant.1 (decode_none c.before.loop.t.now c.loop-test.false)
+returns c = left_none c.loop-t.invariant.1 (decode_none c.loop-t.t.now c.loop-t-test.false)
 
-pub put-decoded-spec : {M : Type 1} → statement M
-put-decoded-spec =
+pub put_decoded_spec : {M : Type 1} → statement M
+put_decoded_spec =
     tie.close
     (tie.spec
     invariant-loop

@@ -9,10 +9,10 @@ use Rattle.frame_bytes.proofs.hex.put_f64.Tie as tie
 
 returns : tie.Need-returns
 returns c =
-    let l = c.before.before in
-    let h = l.before.before.before.before in
-    retold (ap be64 h.before.before.bits.ensures) (then h.put-u32.ensures l.put-u322.ensures)
+    let l = c in
+    let h = l in
+    retold (ap be64 h.bits-bits.ensures) (then h.put_u32-a.ensures l.put_u32.ensures)
 
-pub put-f64-spec : {M : Type 1} → statement M
-put-f64-spec =
+pub put_f64_spec : {M : Type 1} → statement M
+put_f64_spec =
     tie.close (tie.spec (λ c κs. search rules) (λ c κs. search rules) (λ c κs. search rules) (λ c. search rules) returns)

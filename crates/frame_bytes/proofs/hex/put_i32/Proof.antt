@@ -10,8 +10,8 @@ use Rattle.frame_bytes.proofs.hex.put_i32.Tie as tie
 
 returns : tie.Need-returns
 returns c =
-    let b = c.before.before.before.before in
-    retold (ap be32 (rw (to_z-of_z b.before.before.ranges.v) at b.bits.ensures)) c.before.before.put-u32.ensures
+    let b = c in
+    retold (ap be32 (rw (to_z-of_z b.ranges.v) at b.bits-bits.ensures)) c.put_u32.ensures
 
-pub put-i32-spec : {M : Type 1} → statement M
-put-i32-spec = tie.close (tie.spec (λ c κs. search rules) (λ c. search rules) (λ c κs. search rules) (λ c. search rules) returns)
+pub put_i32_spec : {M : Type 1} → statement M
+put_i32_spec = tie.close (tie.spec (λ c κs. search rules) (λ c. search rules) (λ c κs. search rules) (λ c. search rules) returns)

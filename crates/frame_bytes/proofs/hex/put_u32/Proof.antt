@@ -9,14 +9,14 @@ use Rattle.frame_bytes.proofs.hex.put_u32.Tie as tie
 returns : tie.Need-returns
 unfolding be32
 returns c =
-    let p4 = c.before.before in
-    let p3 = p4.before.before.before.before in
-    let p2 = p3.before.before.before.before in
-    let p1 = p2.before.before.before.before in
-    then p1.put_byte.ensures (then p2.put-byte2.ensures (then p3.put-byte3.ensures p4.put-byte4.ensures))
+    let p4 = c in
+    let p3 = p4 in
+    let p2 = p3 in
+    let p1 = p2 in
+    then p1.put_byte-a.ensures (then p2.put_byte-b.ensures (then p3.put_byte-c.ensures p4.put_byte.ensures))
 
-pub put-u32-spec : {M : Type 1} → statement M
-put-u32-spec =
+pub put_u32_spec : {M : Type 1} → statement M
+put_u32_spec =
     tie.close
     (tie.spec
     (λ c. search rules)

@@ -8,11 +8,11 @@ use Rattle.frame_digits.proofs.frame.frame_len.Tie as tie
 
 returns : tie.Need-returns
 returns c =
-    let of = c.before.before in
-    let a = of.before.before.args in
-    omega (arith, frame_size a.input.now a.e of.plain_of_lem.ensures)
+    let of = c in
+    let a = of.args in
+    omega (arith, frame_size a.input.now a.e of.plain_of-p.ensures)
 
-pub frame-len-spec : {M : Type 1} → statement M
-frame-len-spec =
+pub frame_len_spec : {M : Type 1} → statement M
+frame_len_spec =
     tie.close
     (tie.spec (λ c κs. search rules) (λ c κs. search rules) (λ c. search rules) (λ c κs. search rules) returns)

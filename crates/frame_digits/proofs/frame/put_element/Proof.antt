@@ -7,39 +7,39 @@ use borrow.Author.Rules.{rules}
 use Rattle.frame_digits.proofs.frame.put_element.Statement.{statement}
 use Rattle.frame_digits.proofs.frame.put_element.Tie as tie
 
-put-head-requires : tie.Need-put-head-requires
+put-head-requires : tie.Need-put_head-a-requires
 put-head-requires c κs =
-    let of = c.before.before in
-    let a = of.before.before.before.args in
-    omega (arith, frame_size a.input.now a.e of.plain_of_lem.ensures)
+    let of = c in
+    let a = of.args in
+    omega (arith, frame_size a.input.now a.e of.plain_of-p.ensures)
 
-put-fields-requires : tie.Need-put-fields-requires
+put-fields-requires : tie.Need-put_fields-b-requires
 put-fields-requires c κs =
-    let head = c.before.before.before in
-    let of = head.before.before.before in
-    let a = of.before.before.before.args in
-    omega (arith, frame_size a.input.now a.e of.plain_of_lem.ensures)
+    let head = c in
+    let of = head in
+    let a = of.args in
+    omega (arith, frame_size a.input.now a.e of.plain_of-p.ensures)
 
-put-data-requires : tie.Need-put-data-requires
+put-data-requires : tie.Need-put_data-requires
 put-data-requires c κs =
-    let fields = c.before.before.before in
-    let head = fields.before.before.before.before in
-    let of = head.before.before.before in
-    let a = of.before.before.before.args in
-    omega (arith, frame_size a.input.now a.e of.plain_of_lem.ensures)
+    let fields = c in
+    let head = fields in
+    let of = head in
+    let a = of.args in
+    omega (arith, frame_size a.input.now a.e of.plain_of-p.ensures)
 
 returns : tie.Need-returns
 returns c =
-    let behind = c.before.before in
-    let fields = behind.before.before.before.before in
-    let head = fields.before.before.before.before in
-    let of = head.before.before.before in
-    let a = of.before.before.before.args in
-    frame_told a.input.now a.e of.plain_of_lem.ensures
-    (then (then head.put-head.ensures fields.put-fields.ensures) behind.put-data.ensures)
+    let behind = c in
+    let fields = behind in
+    let head = fields in
+    let of = head in
+    let a = of.args in
+    frame_told a.input.now a.e of.plain_of-p.ensures
+    (then (then head.put_head-a.ensures fields.put_fields-b.ensures) behind.put_data.ensures)
 
-pub put-element-spec : {M : Type 1} → statement M
-put-element-spec =
+pub put_element_spec : {M : Type 1} → statement M
+put_element_spec =
     tie.close
     (tie.spec
     (λ c κs. search rules)

@@ -8,17 +8,17 @@ use borrow.Author.Rules.{rules}
 use Rattle.frame_digits.proofs.frame.put_frame.Statement.{statement}
 use Rattle.frame_digits.proofs.frame.put_frame.Tie as tie
 
-put-element-requires : tie.Need-put-element-requires
-put-element-requires c κs = let a = c.before.before.before.args in omega (arith, length_line (frame_of a.input.now a.e))
+put-element-requires : tie.Need-put_element-a-requires
+put-element-requires c κs = let a = c.args in omega (arith, length_line (frame_of a.input.now a.e))
 
-put-lf-requires : tie.Need-put-lf-requires
-put-lf-requires c κs = let put = c.before.before.before in let a = put.before.before.before.before.args in omega (arith, length_line (frame_of a.input.now a.e))
+put-lf-requires : tie.Need-put_lf-requires
+put-lf-requires c κs = let put = c in let a = put.args in omega (arith, length_line (frame_of a.input.now a.e))
 
 returns : tie.Need-returns
-returns c = let lf = c.before.before in let put = lf.before.before.before.before in line put.put-element.ensures lf.put-lf.ensures
+returns c = let lf = c in let put = lf in line put.put_element-a.ensures lf.put_lf.ensures
 
-pub put-frame-spec : {M : Type 1} → statement M
-put-frame-spec =
+pub put_frame_spec : {M : Type 1} → statement M
+put_frame_spec =
     tie.close
     (tie.spec
     put-element-requires

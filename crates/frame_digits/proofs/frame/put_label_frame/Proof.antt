@@ -10,21 +10,21 @@ use Rattle.frame_digits.proofs.frame.put_label_frame.Tie as tie
 returns : tie.Need-returns
 unfolding label_frame be32
 returns c =
-    let lf = c.before.before in
-    let copies = lf.before.before.before.before in let copies-told = copies.before in
-    let sets = copies-told.before.before.before.before in let sets-told = sets.before in
-    let count = sets-told.before.before.before.before in
-    let kind = count.before.before.before.before in
-    let q = kind.before.before.before.args.counts in
+    let lf = c in
+    let copies = lf in let copies-told = copies in
+    let sets = copies-told in let sets-told = sets in
+    let count = sets-told in
+    let kind = count in
+    let q = kind.args.counts in
     line
-    (then kind.put_byte.ensures
-    (then count.put-u32.ensures
-    (then (rw (back32 q.sets sets-told.struct_told.given.0.1) at sets.put-i32.ensures)
-    (rw (back32 q.copies copies-told.struct-told2.given.1.0.1) at copies.put-i322.ensures))))
-    lf.put-lf.ensures
+    (then kind.put_byte-a.ensures
+    (then count.put_u32-b.ensures
+    (then (rw (back32 q.sets sets-told.struct_told-1.given.0.1) at sets.put_i32-c.ensures)
+    (rw (back32 q.copies copies-told.struct_told-2-1.given.1.0.1) at copies.put_i32-d.ensures))))
+    lf.put_lf.ensures
 
-pub put-label-frame-spec : {M : Type 1} → statement M
-put-label-frame-spec =
+pub put_label_frame_spec : {M : Type 1} → statement M
+put_label_frame_spec =
     tie.close
     (tie.spec
     (λ c κs. search rules) (λ c κs. search rules) (λ c κs. search rules) (λ c κs. search rules) (λ c κs. search rules)

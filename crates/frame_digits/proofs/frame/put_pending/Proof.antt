@@ -7,11 +7,11 @@ use Rattle.frame_digits.proofs.frame.put_pending.Tie as tie
 
 returns : tie.Need-returns
 returns c =
-    let lf = c.before.before in let number = lf.before.before.before.before in let kind = number.before.before.before.before in
-    line (then kind.put_byte.ensures number.put-u32.ensures) lf.put-lf.ensures
+    let lf = c in let number = lf in let kind = number in
+    line (then kind.put_byte-a.ensures number.put_u32-b.ensures) lf.put_lf.ensures
 
-pub put-pending-spec : {M : Type 1} → statement M
-put-pending-spec =
+pub put_pending_spec : {M : Type 1} → statement M
+put_pending_spec =
     tie.close
     (tie.spec (λ c κs. search rules) (λ c κs. search rules) (λ c κs. search rules) (λ c. search rules)
     returns)

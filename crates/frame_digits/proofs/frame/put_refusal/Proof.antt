@@ -7,12 +7,12 @@ use Rattle.frame_digits.proofs.frame.put_refusal.Tie as tie
 
 returns : tie.Need-returns
 returns c =
-    let lf = c.before.before in let place = lf.before.before.before.before in
-    let number = place.before.before.before.before in let kind = number.before.before.before.before in
-    line (then kind.put_byte.ensures (then number.put-byte2.ensures place.put-u32.ensures)) lf.put-lf.ensures
+    let lf = c in let place = lf in
+    let number = place in let kind = number in
+    line (then kind.put_byte-a.ensures (then number.put_byte-b.ensures place.put_u32-c.ensures)) lf.put_lf.ensures
 
-pub put-refusal-spec : {M : Type 1} → statement M
-put-refusal-spec =
+pub put_refusal_spec : {M : Type 1} → statement M
+put_refusal_spec =
     tie.close
     (tie.spec
     (λ c κs. search rules)

@@ -9,11 +9,11 @@ use Rattle.frame_digits.proofs.kinds.put_128.Tie as tie
 returns : tie.Need-returns
 unfolding field_bytes
 returns c =
-    let by = c.before.before in let mode = by.before in
-    let bars = mode.before.before.before.before in
-    then bars.put-bars.ensures
+    let by = c in let mode = by in
+    let bars = mode in
+    then bars.put_bars-a.ensures
     (rw mode.mode.ensures at by.put_byte.ensures)
 
-pub put-128-spec : {M : Type 1} → statement M
-put-128-spec =
+pub put_128_spec : {M : Type 1} → statement M
+put_128_spec =
     tie.close (tie.spec (λ c κs. search rules) (λ c κs. search rules) (λ c κs. search rules) (λ c. search rules) returns)

@@ -10,11 +10,11 @@ use Rattle.frame_digits.proofs.kinds.put_aztec.Tie as tie
 returns : tie.Need-returns
 unfolding field_bytes
 returns c =
-    let size = c.before.before in let size-told = size.before in
-    let magnification = size-told.before.before.before.before in
-    let b = magnification.before.before.before.before.args.b in
-    then (rw (back32 b.magnification magnification.before.struct_told.given.0.1) at magnification.put-i32.ensures)
-    (rw (back32 b.size size-told.struct-told2.given.1.0.1) at size.put-i322.ensures)
+    let size = c in let size-told = size in
+    let magnification = size-told in
+    let b = magnification.args.b in
+    then (rw (back32 b.magnification magnification.struct_told-1.given.0.1) at magnification.put_i32-a.ensures)
+    (rw (back32 b.size size-told.struct_told-2-1.given.1.0.1) at size.put_i32.ensures)
 
-pub put-aztec-spec : {M : Type 1} → statement M
-put-aztec-spec = tie.close (tie.spec (λ c κs. search rules) (λ c κs. search rules) (λ c. search rules) returns)
+pub put_aztec_spec : {M : Type 1} → statement M
+put_aztec_spec = tie.close (tie.spec (λ c κs. search rules) (λ c κs. search rules) (λ c. search rules) returns)

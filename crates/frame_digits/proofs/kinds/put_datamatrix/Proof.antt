@@ -10,14 +10,14 @@ use Rattle.frame_digits.proofs.kinds.put_datamatrix.Tie as tie
 returns : tie.Need-returns
 unfolding field_bytes
 returns c =
-    let rows = c.before.before in let rows_told = rows.before in
-    let columns = rows_told.before.before.before.before in let columns-told = columns.before in
-    let height = columns-told.before.before.before.before in
-    let b = height.before.before.before.before.args.b in
-    then (then (rw (back32 b.height height.before.struct_told.given.0.1) at height.put-i32.ensures)
-    (rw (back32 b.columns columns-told.struct-told2.given.1.0.1) at columns.put-i322.ensures))
-    (rw (back32 b.rows rows_told.struct-told3.given.1.1.0.1) at rows.put-i323.ensures)
+    let rows = c in let rows_told = rows in
+    let columns = rows_told in let columns-told = columns in
+    let height = columns-told in
+    let b = height.args.b in
+    then (then (rw (back32 b.height height.struct_told-1.given.0.1) at height.put_i32-a.ensures)
+    (rw (back32 b.columns columns-told.struct_told-2-1.given.1.0.1) at columns.put_i32-c.ensures))
+    (rw (back32 b.rows rows_told.struct_told-3-1.given.1.1.0.1) at rows.put_i32.ensures)
 
-pub put-datamatrix-spec : {M : Type 1} → statement M
-put-datamatrix-spec =
+pub put_datamatrix_spec : {M : Type 1} → statement M
+put_datamatrix_spec =
     tie.close (tie.spec (λ c κs. search rules) (λ c κs. search rules) (λ c κs. search rules) (λ c. search rules) returns)

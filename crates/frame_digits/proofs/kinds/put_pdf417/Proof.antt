@@ -10,18 +10,18 @@ use Rattle.frame_digits.proofs.kinds.put_pdf417.Tie as tie
 returns : tie.Need-returns
 unfolding field_bytes
 returns c =
-    let width = c.before.before in let width-told = width.before in
-    let truncate = width-told.before.before.before.before in
-    let rows = truncate.before.before.before.before in
-    let turned = rows.before.before.before.before in
-    let b = turned.before.before.before.args.b in
-    then turned.put-rotation.ensures
-    (then rows.put-rows.ensures
-    (then truncate.put-flag.ensures
-    (rw (back32 b.module_width width-told.struct_told.given.1.1.1.1.1.1.0.1) at width.put-i32.ensures)))
+    let width = c in let width-told = width in
+    let truncate = width-told in
+    let rows = truncate in
+    let turned = rows in
+    let b = turned.args.b in
+    then turned.put_rotation-a.ensures
+    (then rows.put_rows-c.ensures
+    (then truncate.put_flag-d.ensures
+    (rw (back32 b.module_width width-told.struct_told-1.given.1.1.1.1.1.1.0.1) at width.put_i32.ensures)))
 
-pub put-pdf417-spec : {M : Type 1} → statement M
-put-pdf417-spec =
+pub put_pdf417_spec : {M : Type 1} → statement M
+put_pdf417_spec =
     tie.close
     (tie.spec
     (λ c κs. search rules)

@@ -10,12 +10,12 @@ use Rattle.frame_digits.proofs.kinds.put_qr.Tie as tie
 returns : tie.Need-returns
 unfolding field_bytes
 returns c =
-    let letter = c.before.before in let level = letter.before in
-    let magnification = level.before.before.before.before in
-    let b = magnification.before.before.before.before.args.b in
-    then (rw (back32 b.magnification magnification.before.struct_told.given.0.1) at magnification.put-i32.ensures)
+    let letter = c in let level = letter in
+    let magnification = level in
+    let b = magnification.args.b in
+    then (rw (back32 b.magnification magnification.struct_told-1.given.0.1) at magnification.put_i32-a.ensures)
     (rw level.level.ensures at letter.put_byte.ensures)
 
-pub put-qr-spec : {M : Type 1} → statement M
-put-qr-spec =
+pub put_qr_spec : {M : Type 1} → statement M
+put_qr_spec =
     tie.close (tie.spec (λ c κs. search rules) (λ c κs. search rules) (λ c κs. search rules) (λ c. search rules) returns)

@@ -10,15 +10,15 @@ use Rattle.frame_digits.proofs.kinds.put_ratio.Tie as tie
 returns : tie.Need-returns
 unfolding field_bytes
 returns c =
-    let ratio = c.before.before in
-    let wide = ratio.before.before.before.before in
-    let check = wide.before.before.before.before in
-    let bars = check.before.before.before.before in
-    then bars.put-bars.ensures
-    (then (then check.put-flag.ensures
-    (rw (to_z-of_z bars.before.before.before.ranges.wide) at wide.put-i32.ensures))
-    ratio.put-f64.ensures)
+    let ratio = c in
+    let wide = ratio in
+    let check = wide in
+    let bars = check in
+    then bars.put_bars-a.ensures
+    (then (then check.put_flag-c.ensures
+    (rw (to_z-of_z bars.ranges.wide) at wide.put_i32-d.ensures))
+    ratio.put_f64.ensures)
 
-pub put-ratio-spec : {M : Type 1} → statement M
-put-ratio-spec =
+pub put_ratio_spec : {M : Type 1} → statement M
+put_ratio_spec =
     tie.close (tie.spec (λ c κs. search rules) (λ c κs. search rules) (λ c κs. search rules) (λ c κs. search rules) (λ c. search rules) returns)

@@ -10,18 +10,18 @@ use Rattle.frame_digits.proofs.kinds.put_rows.Tie as tie
 returns : tie.Need-returns
 unfolding row_bytes
 returns c =
-    let rows = c.before.before in let rows_told = rows.before in
-    let columns = rows_told.before.before.before.before in let columns-told = columns.before in
-    let security = columns-told.before.before.before.before in let security-told = security.before in
-    let height = security-told.before.before.before.before in
-    let b = height.before.before.before.before.args.b in
-    then (then (then (rw (back32 b.row_height height.before.struct_told.given.1.0.1) at height.put-i32.ensures)
-    (rw (back32 b.security security-told.struct-told2.given.1.1.0.1) at security.put-i322.ensures))
-    (rw (back32 b.columns columns-told.struct-told3.given.1.1.1.0.1) at columns.put-i323.ensures))
-    (rw (back32 b.rows rows_told.struct-told4.given.1.1.1.1.0.1) at rows.put-i324.ensures)
+    let rows = c in let rows_told = rows in
+    let columns = rows_told in let columns-told = columns in
+    let security = columns-told in let security-told = security in
+    let height = security-told in
+    let b = height.args.b in
+    then (then (then (rw (back32 b.row_height height.struct_told-1.given.1.0.1) at height.put_i32-a.ensures)
+    (rw (back32 b.security security-told.struct_told-2-1.given.1.1.0.1) at security.put_i32-c.ensures))
+    (rw (back32 b.columns columns-told.struct_told-3-1.given.1.1.1.0.1) at columns.put_i32-d.ensures))
+    (rw (back32 b.rows rows_told.struct_told-4-1.given.1.1.1.1.0.1) at rows.put_i32.ensures)
 
-pub put-rows-spec : {M : Type 1} → statement M
-put-rows-spec =
+pub put_rows_spec : {M : Type 1} → statement M
+put_rows_spec =
     tie.close
     (tie.spec
     (λ c κs. search rules)

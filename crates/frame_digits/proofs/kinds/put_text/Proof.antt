@@ -9,19 +9,19 @@ use Rattle.frame_digits.proofs.kinds.put_text.Tie as tie
 returns : tie.Need-returns
 unfolding field_bytes
 returns c =
-    let width = c.before.before in
-    let height = width.before.before.before.before in
-    let scale = height.before.before.before.before in
-    let reverse = scale.before.before.before.before in
-    let turned = reverse.before.before.before.before in
-    then (then (then (then turned.put-rotation.ensures
-    reverse.put-flag.ensures)
-    scale.put-scale.ensures)
-    height.put-f64.ensures)
-    width.put-f642.ensures
+    let width = c in
+    let height = width in
+    let scale = height in
+    let reverse = scale in
+    let turned = reverse in
+    then (then (then (then turned.put_rotation-a.ensures
+    reverse.put_flag-b.ensures)
+    scale.put_scale-c.ensures)
+    height.put_f64-d.ensures)
+    width.put_f64.ensures
 
-pub put-text-spec : {M : Type 1} → statement M
-put-text-spec =
+pub put_text_spec : {M : Type 1} → statement M
+put_text_spec =
     tie.close
     (tie.spec
     (λ c κs. search rules)

@@ -11,18 +11,18 @@ use Rattle.graphics.proofs.BlockLaws.{two_here, two_none}
 use Rattle.graphics.proofs.gw_span.gw_behind_blanks.Statement.{statement}
 use Rattle.graphics.proofs.gw_span.gw_behind_blanks.Tie as tie
 
-returns : tie.Need-returns
+returns : tie.Need-returns-then-t-lt2
 unfolding opens_gw
 returns c =
-    let t = c.before.trim-line-start in
-    two_none t.result.now 71 87 c.if1.true ∙ ap (λ (l : List ℕ). same (take 2 l) (71 ∷ 87 ∷ [])) t.ensures
+    let t = c.trim_line_start-t in
+    two_none t.result.now 71 87 c.if-t-lt2.true ∙ ap (λ (l : List ℕ). same (take 2 l) (71 ∷ 87 ∷ [])) t.ensures
 
-returns-2 : tie.Need-returns-2
+returns-2 : tie.Need-returns
 unfolding opens_gw
 returns-2 c =
-    let t = c.before.before.before.trim-line-start in
-    two_here t.result.now 71 87 c.before.before.if1.false ∙ ap (λ (l : List ℕ). same (take 2 l) (71 ∷ 87 ∷ [])) t.ensures
+    let t = c.trim_line_start-t in
+    two_here t.result.now 71 87 c.if-t-lt2.false ∙ ap (λ (l : List ℕ). same (take 2 l) (71 ∷ 87 ∷ [])) t.ensures
 
-pub gw-behind-blanks-spec : {M : Type 1} → statement M
-gw-behind-blanks-spec =
+pub gw_behind_blanks_spec : {M : Type 1} → statement M
+gw_behind_blanks_spec =
     tie.close (tie.spec (λ c κs. search rules) returns (λ c. search rules) (λ c. search rules) returns-2)

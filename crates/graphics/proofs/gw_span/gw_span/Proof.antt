@@ -7,12 +7,12 @@ use Rattle.graphics.specs.Block.{gw_span}
 use Rattle.graphics.proofs.gw_span.gw_span.Statement.{statement}
 use Rattle.graphics.proofs.gw_span.gw_span.Tie as tie
 
-returns : tie.Need-returns
+returns : tie.Need-returns-then-not-opens_gw
 unfolding gw_span
-returns c = simp (sym c.before.opens-gw.ensures ∙ not-true c.before.opens-gw.result c.if1.true)
+returns c = simp (sym c.opens_gw.ensures ∙ not-true c.opens_gw.result c.if-not-opens_gw.true-raw)
 
-opened-gw-requires : tie.Need-opened-gw-requires
-opened-gw-requires c κs = sym c.before.opens-gw.ensures ∙ not-false c.before.opens-gw.result c.if1.false
+opened-gw-requires : tie.Need-opened_gw-requires
+opened-gw-requires c κs = sym c.opens_gw.ensures ∙ not-false c.opens_gw.result c.if-not-opens_gw.false-raw
 
-pub gw-span-spec : {M : Type 1} → statement M
-gw-span-spec = tie.close (tie.spec (λ c κs. search rules) returns opened-gw-requires (λ c. search rules))
+pub gw_span_spec : {M : Type 1} → statement M
+gw_span_spec = tie.close (tie.spec (λ c κs. search rules) returns opened-gw-requires (λ c. search rules))

@@ -46,27 +46,27 @@ module _ (t : List ℕ) (i : ℕ) (w : Within t i) where
         fits = w.fits;
       }
 
-abbrev invariant-loop : tie.invariant-loop
+abbrev invariant-loop : tie.invariant-loop-i
 invariant-loop t i₀ i = Within t i
 
-abbrev decreases-loop : tie.decreases-loop
+abbrev decreases-loop : tie.decreases-loop-i
 decreases-loop t i₀ i = length t - i
 
-loop-again : tie.Need-loop-preserved invariant-loop decreases-loop
+loop-again : tie.Need-loop-i-preserved invariant-loop decreases-loop
 loop-again c =
-    let l = c.before.before.before.before in
-    field_step l.before.before.args.t.now l.loop.i l.loop.invariant (search rules) (sym c.before.in_field.ensures ∙ c.if1.true)
+    let l = c in
+    field_step l.args.t.now l.loop-i.i l.loop-i.invariant (search rules) (sym c.in_field.ensures ∙ c.if-in_field.true)
 
-returns : tie.Need-returns invariant-loop decreases-loop
+returns : tie.Need-returns-else-in_field invariant-loop decreases-loop
 returns c =
-    let l = c.before.before.before.before in
-    field_stop l.before.before.args.t.now l.loop.i l.loop.invariant (search rules) (sym c.before.in_field.ensures ∙ c.if1.false)
+    let l = c in
+    field_stop l.args.t.now l.loop-i.i l.loop-i.invariant (search rules) (sym c.in_field.ensures ∙ c.if-in_field.false)
 
-returns-2 : tie.Need-returns-2 invariant-loop decreases-loop
-returns-2 c = field_end c.before.before.before.args.t.now c.before.loop.i c.before.loop.invariant c.loop-test.false
+returns-2 : tie.Need-returns-after-loop-i invariant-loop decreases-loop
+returns-2 c = field_end c.args.t.now c.loop-i.i c.loop-i.invariant c.loop-i-test.false
 
-pub header-field-len-spec : {M : Type 1} → statement M
-header-field-len-spec =
+pub header_field_len_spec : {M : Type 1} → statement M
+header_field_len_spec =
     tie.close
     (tie.spec invariant-loop decreases-loop (λ c. search rules) (λ c. search rules) (λ c κs. search rules) (λ c. search rules)
     (λ c. search rules)

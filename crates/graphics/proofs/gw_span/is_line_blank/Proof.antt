@@ -13,8 +13,8 @@ use Rattle.graphics.proofs.gw_span.is_line_blank.Tie as tie
 
 returns : tie.Need-returns
 returns c =
-    let b = c.before.args.b in
-    ap (λ (x : Bool). x && not (eqb b 10)) c.is-ascii-blank.ensures ∙ bytes (λ (b : ℕ). is_ascii_blank b && not (eqb b 10)) is_line_blank tt b (search rules)
+    let b = c.args.b in
+    ap (λ (x : Bool). x && not (eqb b 10)) c.is_ascii_blank.ensures ∙ bytes (λ (b : ℕ). is_ascii_blank b && not (eqb b 10)) is_line_blank tt b (search rules)
 
-pub is-line-blank-spec : {M : Type 1} → statement M
-is-line-blank-spec = tie.close (tie.spec (λ c κs. search rules) returns)
+pub is_line_blank_spec : {M : Type 1} → statement M
+is_line_blank_spec = tie.close (tie.spec (λ c κs. search rules) returns)

@@ -16,58 +16,58 @@ use Rattle.graphics.proofs.gw_span.measure.Statement.{statement}
 use Rattle.graphics.proofs.gw_span.measure.Tie as tie
 
 -- the sizes, read back from their bits
-width_back : (d : tie.After-struct-told2) → to_z w32 (of_z w32 d.before.before.args.n.width_bytes) ≡ d.before.before.args.n.width_bytes
-width_back d = back32 d.before.before.args.n.width_bytes d.struct-told2.given.1.0.1
+width_back : (d : tie.After-struct_told-2-1) → to_z w32 (of_z w32 d.args.n.width_bytes) ≡ d.args.n.width_bytes
+width_back d = back32 d.args.n.width_bytes d.struct_told-2-1.given.1.0.1
 
-lines_back : (d : tie.After-struct-told2) → to_z w32 (of_z w32 d.before.before.args.n.lines) ≡ d.before.before.args.n.lines
-lines_back d = back32 d.before.before.args.n.lines d.struct-told2.given.1.1.0.1
+lines_back : (d : tie.After-struct_told-2-1) → to_z w32 (of_z w32 d.args.n.lines) ≡ d.args.n.lines
+lines_back d = back32 d.args.n.lines d.struct_told-2-1.given.1.1.0.1
 
 -- neither size is negative
-width_ok : (d : tie.Else1) → lt_z d.before.before.before.args.n.width_bytes (pos 0) ≡ false
-width_ok d = simp (width_back d.before) at d.if1.false
+width_ok : (d : tie.Else-width-lt0) → lt_z d.args.n.width_bytes (pos 0) ≡ false
+width_ok d = simp (width_back d.before) at d.if-width-lt0.false
 
-lines_ok : (d : tie.Else2) → lt_z d.before.before.before.before.args.n.lines (pos 0) ≡ false
-lines_ok d = simp (lines_back d.before.before) at d.if2.false
+lines_ok : (d : tie.Else-lines-lt0) → lt_z d.args.n.lines (pos 0) ≡ false
+lines_ok d = simp (lines_back d.before.before) at d.if-lines-lt0.false
 
-returns : tie.Need-returns
+returns : tie.Need-returns-then-width-lt0
 unfolding measured
-returns c = simp (simp (width_back c.before) at c.if1.true)
+returns c = simp (simp (width_back c.before) at c.if-width-lt0.true)
 
-returns-2 : tie.Need-returns-2
+returns-2 : tie.Need-returns-then-lines-lt0
 unfolding measured
-returns-2 c = simp (width_ok c.before, simp (lines_back c.before.before) at c.if2.true)
+returns-2 c = simp (width_ok c.before, simp (lines_back c.before.before) at c.if-lines-lt0.true)
 
-cast-total : tie.Need-overflow-cast-total
+cast-total : tie.Need-overflow_cast-total
 cast-total c =
     let d = c.before.before in
-    rw (width_back d) (size d.before.before.args.n.width_bytes d.struct-told2.given.1.0.1 (width_ok c.before))
+    rw (width_back d) (size d.args.n.width_bytes d.struct_told-2-1.given.1.0.1 (width_ok c.before))
 
-cast-total-2 : tie.Need-overflow-cast-total-2
+cast-total-2 : tie.Need-overflow_cast-total-2
 cast-total-2 c =
     let d = c.before.before in
-    rw (lines_back d) (size d.before.before.args.n.lines d.struct-told2.given.1.1.0.1 (lines_ok c))
+    rw (lines_back d) (size d.args.n.lines d.struct_told-2-1.given.1.1.0.1 (lines_ok c))
 
-mul-total : tie.Need-overflow-mul-total
+mul-total : tie.Need-overflow_mul-total
 mul-total c =
     let d = c.before.before in
-    let n = d.before.before.args.n in
-    rw (width_back d, lines_back d) (total_fits n.width_bytes n.lines d.struct-told2.given.1.0.1 d.struct-told2.given.1.1.0.1)
+    let n = d.args.n in
+    rw (width_back d, lines_back d) (total_fits n.width_bytes n.lines d.struct_told-2-1.given.1.0.1 d.struct_told-2-1.given.1.1.0.1)
 
-returns-3 : tie.Need-returns-3
+returns-3 : tie.Need-returns-then-left-total
 unfolding measured
 returns-3 c =
     let d = c.before.before.before in
-    let a = d.before.before.args in
-    simp (width_ok c.before.before, lines_ok c.before, lt-ltb a.left (total a.n) (simp (width_back d, lines_back d) at c.if3.true))
+    let a = d.args in
+    simp (width_ok c.before.before, lines_ok c.before, lt-ltb a.left (total a.n) (simp (width_back d, lines_back d) at c.if-left-total.true))
 
-returns-4 : tie.Need-returns-4
+returns-4 : tie.Need-returns
 unfolding measured
 returns-4 c =
     let d = c.before.before.before.before in
-    let a = d.before.before.args in
+    let a = d.args in
     rw (width_back d, lines_back d)
-    (simp (width_ok c.before.before.before, lines_ok c.before.before, le-ltb a.left (total a.n) (simp (width_back d, lines_back d) at c.before.if3.false)))
+    (simp (width_ok c.before.before.before, lines_ok c.before.before, le-ltb a.left (total a.n) (simp (width_back d, lines_back d) at c.if-left-total.false)))
 
-pub measure-spec : {M : Type 1} → statement M
-measure-spec =
+pub measure_spec : {M : Type 1} → statement M
+measure_spec =
     tie.close (tie.spec returns returns-2 cast-total cast-total-2 mul-total returns-3 (λ c. search rules) returns-4)

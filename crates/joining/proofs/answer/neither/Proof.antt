@@ -3,5 +3,5 @@ use borrow.Author.Rules.{rules}
 use Rattle.joining.proofs.answer.neither.Statement.{statement}
 use Rattle.joining.proofs.answer.neither.Tie as tie
 
-pub neither-spec : {M : Type 1} → statement M
-neither-spec = tie.close (tie.spec (λ c κs. search rules) (λ c. search rules) (λ c. simp c.number.ensures))
+pub neither_spec : {M : Type 1} → statement M
+neither_spec = tie.close (tie.spec (λ c κs. search rules) (λ c. search rules) (λ c. simp c.number.ensures))

@@ -12,20 +12,20 @@ use Rattle.normal_lines.proofs.line.line_len.Tie as tie
 
 returns : tie.Need-returns
 returns c =
-    let e = c.before in
-    let f = e.before.before in
-    let n = f.before in
-    let s = n.before.before.args.rest.now in
+    let e = c in
+    let f = e in
+    let n = f in
+    let s = n.args.rest.now in
     record {
-      size = c.line-size.ensures ∙ ap (λ (k : ℕ). size_by k (length s)) (n.find.ensures.is ∙ sym (index_length s));
+      size = c.line_size.ensures ∙ ap (λ (k : ℕ). size_by k (length s)) (n.find-n.ensures.is ∙ sym (index_length s));
       len = ap length (
-          e.trim-ascii-end.ensures ∙ ap (drop_end is_ascii_blank) e.before.trim-ascii-start.ensures
-          ∙ ap trim_ascii (f.first.ensures ∙ ap (λ (k : ℕ). take k s) n.find.ensures.is ∙ sym (front_index s))
+          e.trim_ascii_end-kept.ensures ∙ ap (drop_end is_ascii_blank) e.trim_ascii_start.ensures
+          ∙ ap trim_ascii (f.first.ensures ∙ ap (λ (k : ℕ). take k s) n.find-n.ensures.is ∙ sym (front_index s))
           );
     }
 
-pub line-len-spec : {M : Type 1} → statement M
-line-len-spec =
+pub line_len_spec : {M : Type 1} → statement M
+line_len_spec =
     tie.close (tie.spec
     (λ c κs. search rules) (λ c κs. search rules) (λ c κs. search rules) (λ c κs. search rules) (λ c κs. search rules)
     returns)

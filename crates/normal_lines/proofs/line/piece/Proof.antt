@@ -11,9 +11,9 @@ use Rattle.normal_lines.proofs.line.piece.Tie as tie
 
 returns : tie.Need-returns
 returns c =
-    let f = c.before in
-    let n = f.before in
-    c.first2.ensures ∙ ap (λ (k : ℕ). take k n.first.result.now) f.find.ensures.is ∙ sym (front_index n.first.result.now) ∙ ap (front not_lf) n.first.ensures
+    let f = c in
+    let n = f in
+    c.first.ensures ∙ ap (λ (k : ℕ). take k n.first-near.result.now) f.find.ensures.is ∙ sym (front_index n.first-near.result.now) ∙ ap (front not_lf) n.first-near.ensures
 
-pub piece-spec : {M : Type 1} → statement M
-piece-spec = tie.close (tie.spec (λ c κs. search rules) (λ c κs. search rules) (λ c κs. search rules) returns)
+pub piece_spec : {M : Type 1} → statement M
+piece_spec = tie.close (tie.spec (λ c κs. search rules) (λ c κs. search rules) (λ c κs. search rules) returns)

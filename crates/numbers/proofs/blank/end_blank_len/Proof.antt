@@ -9,26 +9,26 @@ use Rattle.text.proofs.BlankSteps.{size_one, size_wide, blank_last, end_plain, e
 use Rattle.numbers.proofs.blank.end_blank_len.Statement.{statement}
 use Rattle.numbers.proofs.blank.end_blank_len.Tie as tie
 
-returns : tie.Need-returns
-returns c = omega (arith, end_le c.before.before.args.s.now)
+returns : tie.Need-returns-then-s-eq0
+returns c = omega (arith, end_le c.args.s.now)
 
-returns-2 : tie.Need-returns-2
-returns-2 c = let plain = c.before in sym (end_plain plain.before.before.before.before.args.s.now (omega arith) (sym plain.is_plain.ensures ∙ c.if2.true))
+returns-2 : tie.Need-returns-then-is_plain
+returns-2 c = let plain = c in sym (end_plain plain.args.s.now (omega arith) (sym plain.is_plain.ensures ∙ c.if-is_plain.true))
 
-returns-3 : tie.Need-returns-3
+returns-3 : tie.Need-returns-then-is_blank1
 returns-3 c =
-    let blank = c.before in let plain = blank.before.before in let s = plain.before.before.before.before.args.s.now in
-    size_one (back is_blank) (reverse s) (blank_last s (omega arith) ∙ sym blank.is-blank1.ensures ∙ c.if3.true)
+    let blank = c in let plain = blank in let s = plain.args.s.now in
+    size_one (back is_blank) (reverse s) (blank_last s (omega arith) ∙ sym blank.is_blank1.ensures ∙ c.if-is_blank1.true)
 
-returns-4 : tie.Need-returns-4
+returns-4 : tie.Need-returns
 returns-4 c =
-    let e = c.before.before.before in
-    let blank = e.before in let plain = blank.before.before in let s = plain.before.before.before.before.args.s.now in
-    size_wide (back is_blank) (reverse s) (blank_last s (omega arith) ∙ sym blank.is-blank1.ensures ∙ e.if3.false)
-    (ap is_blank c.before.before.last.ensures) (ap is_blank c.before.last2.ensures) c.wide-len.ensures
+    let e = c in
+    let blank = e in let plain = blank in let s = plain.args.s.now in
+    size_wide (back is_blank) (reverse s) (blank_last s (omega arith) ∙ sym blank.is_blank1.ensures ∙ e.if-is_blank1.false)
+    (ap is_blank c.last.ensures) (ap is_blank c.last-2.ensures) c.wide_len.ensures
 
-pub end-blank-len-spec : {M : Type 1} → statement M
-end-blank-len-spec =
+pub end_blank_len_spec : {M : Type 1} → statement M
+end_blank_len_spec =
     tie.close (tie.spec returns (λ c. search rules) (λ c. search rules) (λ c κs. search rules)
     returns-2 (λ c κs. search rules)
     returns-3 (λ c κs. search rules) (λ c κs. search rules) (λ c κs. search rules)

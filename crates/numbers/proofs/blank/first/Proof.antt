@@ -10,7 +10,7 @@ use Rattle.numbers.proofs.blank.first.Statement.{statement}
 use Rattle.numbers.proofs.blank.first.Tie as tie
 
 returns : tie.Need-returns
-returns c = ap (λ (n : ℕ). take n c.before.before.before.args.s.now) c.before.min.ensures ∙ take_min c.before.before.before.args.k c.before.before.before.args.s.now
+returns c = ap (λ (n : ℕ). take n c.args.s.now) c.min-n.ensures ∙ take_min c.args.k c.args.s.now
 
 pub first_spec : {M : Type 1} → statement M
 first_spec = tie.close (tie.spec (λ c κs. search rules) (λ c. simp length-take (omega arith)) returns)

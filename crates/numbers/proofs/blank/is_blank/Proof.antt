@@ -6,20 +6,20 @@ use Rattle.text.proofs.BlankSteps.{blank_one, blank_two, blank_three, blank_othe
 use Rattle.numbers.proofs.blank.is_blank.Statement.{statement}
 use Rattle.numbers.proofs.blank.is_blank.Tie as tie
 
-returns : tie.Need-returns
-returns c = c.is-blank1.ensures ∙ blank_one c.before.before.before.before.args.w.now c.before.before.if1.true
+returns : tie.Need-returns-then-w-eq1
+returns c = c.is_blank1.ensures ∙ blank_one c.args.w.now c.if-w-eq1.true
 
-returns-2 : tie.Need-returns-2
-returns-2 c = let two = c.before.before.before in c.is-blank2.ensures ∙ blank_two two.before.before.before.args.w.now two.if2.true
+returns-2 : tie.Need-returns-then-w-eq2
+returns-2 c = let two = c in c.is_blank2.ensures ∙ blank_two two.args.w.now two.if-w-eq2.true
 
-returns-3 : tie.Need-returns-3
-returns-3 c = let three = c.before.before.before.before in c.is-blank3.ensures ∙ blank_three three.before.before.before.before.args.w.now three.if3.true
+returns-3 : tie.Need-returns-then-w-eq3
+returns-3 c = let three = c in c.is_blank3.ensures ∙ blank_three three.args.w.now three.if-w-eq3.true
 
-returns-4 : tie.Need-returns-4
-returns-4 c = blank_other c.before.before.before.before.args.w.now c.before.before.if1.false c.before.if2.false c.if3.false
+returns-4 : tie.Need-returns
+returns-4 c = blank_other c.args.w.now c.if-w-eq1.false c.if-w-eq2.false c.if-w-eq3.false
 
-pub is-blank-spec : {M : Type 1} → statement M
-is-blank-spec =
+pub is_blank_spec : {M : Type 1} → statement M
+is_blank_spec =
     tie.close (tie.spec (λ c. search rules) (λ c κs. search rules)
     returns (λ c. search rules) (λ c. search rules) (λ c κs. search rules)
     returns-2 (λ c. search rules) (λ c. search rules) (λ c. search rules) (λ c κs. search rules)

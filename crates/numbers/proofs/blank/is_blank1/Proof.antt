@@ -11,8 +11,8 @@ use Rattle.numbers.proofs.blank.is_blank1.Tie as tie
 
 returns : tie.Need-returns
 returns c =
-    let a = c.before.args.a in
-    ap (λ (x : Bool). x || eqb a 11) c.is-ascii-blank.ensures ∙ bytes (λ (b : ℕ). is_ascii_blank b || eqb b 11) is_blank1 tt a (search rules)
+    let a = c.args.a in
+    ap (λ (x : Bool). x || eqb a 11) c.is_ascii_blank.ensures ∙ bytes (λ (b : ℕ). is_ascii_blank b || eqb b 11) is_blank1 tt a (search rules)
 
-pub is-blank1-spec : {M : Type 1} → statement M
-is-blank1-spec = tie.close (tie.spec (λ c κs. search rules) returns)
+pub is_blank1_spec : {M : Type 1} → statement M
+is_blank1_spec = tie.close (tie.spec (λ c κs. search rules) returns)

@@ -6,10 +6,10 @@ use Rattle.numbers.proofs.blank.last.Statement.{statement}
 use Rattle.numbers.proofs.blank.last.Tie as tie
 
 returns : tie.Need-returns
-returns c = last_is c.before.before.before.args.s.now c.before.before.before.args.k _ c.before.min.ensures
+returns c = last_is c.args.s.now c.args.k _ c.min.ensures
 
-pub last-spec : {M : Type 1} → statement M
-last-spec =
+pub last_spec : {M : Type 1} → statement M
+last_spec =
     tie.close
     (tie.spec (λ c κs. search rules) (λ c. search rules) (λ c. search rules) (λ c. search rules) (λ c. search rules)
     returns)

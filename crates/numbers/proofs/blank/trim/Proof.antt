@@ -8,17 +8,17 @@ use Rattle.text.proofs.BlankSteps.{trim_empty, trim_plain}
 use Rattle.numbers.proofs.blank.trim.Statement.{statement}
 use Rattle.numbers.proofs.blank.trim.Tie as tie
 
-returns : tie.Need-returns
-returns c = trim_empty c.before.before.args.s.now c.if1.true
+returns : tie.Need-returns-then-s-eq0
+returns c = trim_empty c.args.s.now c.if-s-eq0.true
 
-returns-2 : tie.Need-returns-2
+returns-2 : tie.Need-returns-then-is_plain
 returns-2 c =
-    let a = c.before.before.before in
-    let k = and_both a.is_plain.result c.before.is-plain2.result c.if2.true in
-    trim_plain a.before.before.before.before.args.s.now (omega arith) (sym a.is_plain.ensures ∙ k.0) (sym c.before.is-plain2.ensures ∙ k.1)
+    let a = c in
+    let k = and_both a.is_plain.result c.is_plain-2.result c.if-is_plain.true in
+    trim_plain a.args.s.now (omega arith) (sym a.is_plain.ensures ∙ k.0) (sym c.is_plain-2.ensures ∙ k.1)
 
-pub trim-spec : {M : Type 1} → statement M
-trim-spec =
+pub trim_spec : {M : Type 1} → statement M
+trim_spec =
     tie.close (tie.spec
     returns (λ c. search rules) (λ c κs. search rules) (λ c. search rules) (λ c. search rules) (λ c κs. search rules)
     returns-2 (λ c κs. search rules) (λ c κs. search rules) (λ c. search rules))

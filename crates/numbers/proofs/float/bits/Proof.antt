@@ -19,8 +19,8 @@ bits_nan : (x : Float) → ne x x ≡ true → 0x7ff8_0000_0000_0000 ≡ to_bits
 unfolding to_bits
 bits_nan x e = subst (λ (y : Float). 0x7ff8_0000_0000_0000 ≡ to_bits binary64 y) (sym (differs_from_itself x (subst T (sym e) tt))) refl
 
-pub bits-spec : {M : Type 1} → statement M
-bits-spec =
+pub bits_spec : {M : Type 1} → statement M
+bits_spec =
     tie.close
-    (tie.spec (λ c. bits_nan c.before.args.x c.if1.true) (λ c. no_nan c.before.args.x c.if1.false)
+    (tie.spec (λ c. bits_nan c.args.x c.if-x.true) (λ c. no_nan c.args.x c.if-x.false)
     (λ c. search rules))

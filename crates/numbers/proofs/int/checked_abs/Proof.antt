@@ -11,18 +11,18 @@ use Rattle.numbers.proofs.IntLaws.{back64, checked_in, abs_neg, abs_pos}
 use Rattle.numbers.proofs.int.checked_abs.Statement.{statement}
 use Rattle.numbers.proofs.int.checked_abs.Tie as tie
 
-returns : tie.Need-returns
+returns : tie.Need-returns-then-a-lt0
 returns c =
-    let s = c.before.before.before in
-    let n : lt_z s.args.a (pos 0) ≡ true = simp (to_z-of_z s.ranges.a) at c.before.before.if1.true in
-    let e : c.before.minus.result ≡ pos (nat_abs s.args.a) = (simp (to_z-of_z s.ranges.a) at c.before.minus.ensures) ∙ abs_neg s.args.a n in
-    simp (back64 c.before.minus.result c.before.minus.type-inv) at c.narrow.ensures ∙ ap checked e
+    let s = c in
+    let n : lt_z s.args.a (pos 0) ≡ true = simp (to_z-of_z s.ranges.a) at c.if-a-lt0.true in
+    let e : c.minus.result ≡ pos (nat_abs s.args.a) = (simp (to_z-of_z s.ranges.a) at c.minus.ensures) ∙ abs_neg s.args.a n in
+    simp (back64 c.minus.result c.minus.type_inv) at c.narrow.ensures ∙ ap checked e
 
-returns-2 : tie.Need-returns-2
+returns-2 : tie.Need-returns
 returns-2 c =
-    let s = c.before in
-    let n : lt_z s.args.a (pos 0) ≡ false = simp (to_z-of_z s.ranges.a) at c.if1.false in
+    let s = c in
+    let n : lt_z s.args.a (pos 0) ≡ false = simp (to_z-of_z s.ranges.a) at c.if-a-lt0.false in
     rw (to_z-of_z s.ranges.a) (sym (ap checked (abs_pos s.args.a n) ∙ checked_in s.args.a s.ranges.a.sfits))
 
-pub checked-abs-spec : {M : Type 1} → statement M
-checked-abs-spec = tie.close (tie.spec (λ c κs. search rules) (λ c κs. search rules) returns returns-2)
+pub checked_abs_spec : {M : Type 1} → statement M
+checked_abs_spec = tie.close (tie.spec (λ c κs. search rules) (λ c κs. search rules) returns returns-2)

@@ -11,9 +11,9 @@ use Rattle.numbers.proofs.int.checked_add.Tie as tie
 
 returns : tie.Need-returns
 returns c =
-    let s = c.before.before in
-    let e : c.before.plus.result ≡ (s.args.a +ℤ s.args.b) = simp (to_z-of_z s.ranges.a, to_z-of_z s.ranges.b) at c.before.plus.ensures in
-    simp (back64 c.before.plus.result c.before.plus.type-inv) at c.narrow.ensures ∙ ap checked e
+    let s = c in
+    let e : c.plus.result ≡ (s.args.a +ℤ s.args.b) = simp (to_z-of_z s.ranges.a, to_z-of_z s.ranges.b) at c.plus.ensures in
+    simp (back64 c.plus.result c.plus.type_inv) at c.narrow.ensures ∙ ap checked e
 
-pub checked-add-spec : {M : Type 1} → statement M
-checked-add-spec = tie.close (tie.spec (λ c κs. search rules) (λ c κs. search rules) returns)
+pub checked_add_spec : {M : Type 1} → statement M
+checked_add_spec = tie.close (tie.spec (λ c κs. search rules) (λ c κs. search rules) returns)

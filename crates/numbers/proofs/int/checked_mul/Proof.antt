@@ -11,9 +11,9 @@ use Rattle.numbers.proofs.int.checked_mul.Tie as tie
 
 returns : tie.Need-returns
 returns c =
-    let s = c.before.before in
-    let e : c.before.times.result ≡ (s.args.a *ℤ s.args.b) = simp (to_z-of_z s.ranges.a, to_z-of_z s.ranges.b) at c.before.times.ensures in
-    simp (back64 c.before.times.result c.before.times.type-inv) at c.narrow.ensures ∙ ap checked e
+    let s = c in
+    let e : c.times.result ≡ (s.args.a *ℤ s.args.b) = simp (to_z-of_z s.ranges.a, to_z-of_z s.ranges.b) at c.times.ensures in
+    simp (back64 c.times.result c.times.type_inv) at c.narrow.ensures ∙ ap checked e
 
-pub checked-mul-spec : {M : Type 1} → statement M
-checked-mul-spec = tie.close (tie.spec (λ c κs. search rules) (λ c κs. search rules) returns)
+pub checked_mul_spec : {M : Type 1} → statement M
+checked_mul_spec = tie.close (tie.spec (λ c κs. search rules) (λ c κs. search rules) returns)

@@ -11,9 +11,9 @@ use Rattle.numbers.proofs.int.checked_sub.Tie as tie
 
 returns : tie.Need-returns
 returns c =
-    let s = c.before.before in
-    let e : c.before.minus.result ≡ (s.args.a -ℤ s.args.b) = simp (to_z-of_z s.ranges.a, to_z-of_z s.ranges.b) at c.before.minus.ensures in
-    simp (back64 c.before.minus.result c.before.minus.type-inv) at c.narrow.ensures ∙ ap checked e
+    let s = c in
+    let e : c.minus.result ≡ (s.args.a -ℤ s.args.b) = simp (to_z-of_z s.ranges.a, to_z-of_z s.ranges.b) at c.minus.ensures in
+    simp (back64 c.minus.result c.minus.type_inv) at c.narrow.ensures ∙ ap checked e
 
-pub checked-sub-spec : {M : Type 1} → statement M
-checked-sub-spec = tie.close (tie.spec (λ c κs. search rules) (λ c κs. search rules) returns)
+pub checked_sub_spec : {M : Type 1} → statement M
+checked_sub_spec = tie.close (tie.spec (λ c κs. search rules) (λ c κs. search rules) returns)

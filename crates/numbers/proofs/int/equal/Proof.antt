@@ -7,5 +7,5 @@ use Rattle.numbers.proofs.int.equal.Tie as tie
 returns : tie.Need-returns
 returns c = eq_bits c.args.a c.args.b c.ranges.a.sfits c.ranges.b.sfits
 
-pub equal-spec : {M : Type 1} → statement M
-equal-spec = tie.close (tie.spec returns)
+pub equal_spec : {M : Type 1} → statement M
+equal_spec = tie.close (tie.spec returns)

@@ -4,11 +4,11 @@ use mir.Facts.{to_z-of_z}
 use Rattle.numbers.proofs.int.max.Statement.{statement}
 use Rattle.numbers.proofs.int.max.Tie as tie
 
-returns : tie.Need-returns
-returns c = simp (to_z-of_z c.before.ranges.b, simp (to_z-of_z c.before.ranges.a, to_z-of_z c.before.ranges.b) at c.if1.true)
+returns : tie.Need-returns-then-a-b
+returns c = simp (to_z-of_z c.ranges.b, simp (to_z-of_z c.ranges.a, to_z-of_z c.ranges.b) at c.if-a-b.true)
 
-returns-2 : tie.Need-returns-2
-returns-2 c = simp (to_z-of_z c.before.ranges.a, simp (to_z-of_z c.before.ranges.a, to_z-of_z c.before.ranges.b) at c.if1.false)
+returns-2 : tie.Need-returns-else-a-b
+returns-2 c = simp (to_z-of_z c.ranges.a, simp (to_z-of_z c.ranges.a, to_z-of_z c.ranges.b) at c.if-a-b.false)
 
-pub max-spec : {M : Type 1} → statement M
-max-spec = tie.close (tie.spec returns returns-2)
+pub max_spec : {M : Type 1} → statement M
+max_spec = tie.close (tie.spec returns returns-2)

@@ -7,13 +7,13 @@ use Rattle.numbers.proofs.IntLaws.{sub_fits}
 use Rattle.numbers.proofs.int.minus.Statement.{statement}
 use Rattle.numbers.proofs.int.minus.Tie as tie
 
-cast-result : tie.Need-overflow-cast-result
+cast-result : tie.Need-overflow_cast-result
 cast-result c = simp (to_z-of_z c.ranges.a) (sfits_widen tt c.ranges.a)
 
-cast-result-2 : tie.Need-overflow-cast-result-2
+cast-result-2 : tie.Need-overflow_cast-result-2
 cast-result-2 c = simp (to_z-of_z c.ranges.b) (sfits_widen tt c.ranges.b)
 
-sub-result : tie.Need-overflow-sub-result
+sub-result : tie.Need-overflow_sub-result
 sub-result c =
     let a : SFits w64 c.args.a = sfits_widen tt c.ranges.a in
     let b : SFits w64 c.args.b = sfits_widen tt c.ranges.b in
@@ -25,5 +25,5 @@ returns c =
     let b : SFits w64 c.args.b = sfits_widen tt c.ranges.b in
     simp (to_z-of_z c.ranges.a, to_z-of_z c.ranges.b, to_z-of_z a, to_z-of_z b, to_z-of_z (sub_fits _ _ c.ranges.a c.ranges.b))
 
-pub minus-spec : {M : Type 1} → statement M
-minus-spec = tie.close (tie.spec cast-result cast-result-2 sub-result returns)
+pub minus_spec : {M : Type 1} → statement M
+minus_spec = tie.close (tie.spec cast-result cast-result-2 sub-result returns)

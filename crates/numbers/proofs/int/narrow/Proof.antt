@@ -10,22 +10,22 @@ use Rattle.numbers.proofs.IntLaws.{back32, in32_low, in32_high, in32_mid}
 use Rattle.numbers.proofs.int.narrow.Statement.{statement}
 use Rattle.numbers.proofs.int.narrow.Tie as tie
 
-returns : tie.Need-returns
-returns c = simp (in32_low c.before.args.t (simp (to_z-of_z c.before.ranges.t) at c.if1.true))
+returns : tie.Need-returns-then-t-ltminus2147483648
+returns c = simp (in32_low c.args.t (simp (to_z-of_z c.ranges.t) at c.if-t-ltminus2147483648.true))
 
-returns-2 : tie.Need-returns-2
-returns-2 c = simp (in32_high c.before.before.args.t (simp (to_z-of_z c.before.before.ranges.t) at c.if2.true))
+returns-2 : tie.Need-returns-then-t-gt2147483647
+returns-2 c = simp (in32_high c.args.t (simp (to_z-of_z c.ranges.t) at c.if-t-gt2147483647.true))
 
-cast-t3 : tie.Need-overflow-cast-t3
+cast-t3 : tie.Need-overflow_cast-result
 cast-t3 c =
-    let a = c.before.before in
-    simp (to_z-of_z a.ranges.t) (record { sfits = ltb-true (mag a.args.t) 2147483648 (in32_mid a.args.t (simp (to_z-of_z a.ranges.t) at c.before.if1.false) (simp (to_z-of_z a.ranges.t) at c.if2.false)) })
+    let a = c in
+    simp (to_z-of_z a.ranges.t) (record { sfits = ltb-true (mag a.args.t) 2147483648 (in32_mid a.args.t (simp (to_z-of_z a.ranges.t) at c.if-t-ltminus2147483648.false) (simp (to_z-of_z a.ranges.t) at c.if-t-gt2147483647.false)) })
 
-returns-3 : tie.Need-returns-3
+returns-3 : tie.Need-returns
 returns-3 c =
-    let a = c.before.before in
-    let e : in32 a.args.t ≡ true = in32_mid a.args.t (simp (to_z-of_z a.ranges.t) at c.before.if1.false) (simp (to_z-of_z a.ranges.t) at c.if2.false) in
+    let a = c in
+    let e : in32 a.args.t ≡ true = in32_mid a.args.t (simp (to_z-of_z a.ranges.t) at c.if-t-ltminus2147483648.false) (simp (to_z-of_z a.ranges.t) at c.if-t-gt2147483647.false) in
     simp (to_z-of_z a.ranges.t, back32 a.args.t (ltb-true (mag a.args.t) 2147483648 e), e)
 
-pub narrow-spec : {M : Type 1} → statement M
-narrow-spec = tie.close (tie.spec returns returns-2 cast-t3 returns-3)
+pub narrow_spec : {M : Type 1} → statement M
+narrow_spec = tie.close (tie.spec returns returns-2 cast-t3 returns-3)

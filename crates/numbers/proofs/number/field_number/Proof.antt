@@ -7,7 +7,7 @@ use Rattle.numbers.proofs.number.field_number.Statement.{statement}
 use Rattle.numbers.proofs.number.field_number.Tie as tie
 
 returns : tie.Need-returns
-returns c = c.parse.ensures ∙ ap number_spelled c.before.trim.ensures
+returns c = c.parse.ensures ∙ ap number_spelled c.trim.ensures
 
-pub field-number-spec : {M : Type 1} → statement M
-field-number-spec = tie.close (tie.spec (λ c κs. search rules) (λ c κs. search rules) returns)
+pub field_number_spec : {M : Type 1} → statement M
+field_number_spec = tie.close (tie.spec (λ c κs. search rules) (λ c κs. search rules) returns)

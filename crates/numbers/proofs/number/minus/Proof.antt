@@ -12,10 +12,10 @@ use Rattle.numbers.proofs.NumberLaws.{zero_sub, mag_neg_lt}
 use Rattle.numbers.proofs.number.minus.Statement.{statement}
 use Rattle.numbers.proofs.number.minus.Tie as tie
 
-sub-result : tie.Need-overflow-sub-result
+sub-result : tie.Need-overflow_sub-result
 sub-result c = simp (to_z_pos w64 {n = c.args.v} (omega arith), zero_sub) (record { sfits = omega (arith, mag_neg_lt c.args.v c.requires) })
 
-cast-result-2 : tie.Need-overflow-cast-result-2
+cast-result-2 : tie.Need-overflow_cast-result-2
 cast-result-2 c =
     let m : mag (neg_ℤ (pos c.args.v)) < 2147483648 = mag_neg_lt c.args.v c.requires in
     rw (to_z_pos w64 {n = c.args.v} (omega arith), zero_sub c.args.v, back64 (neg_ℤ (pos c.args.v)) (omega arith)) (record { sfits = m })
@@ -25,5 +25,5 @@ returns c =
     let m : mag (neg_ℤ (pos c.args.v)) < 2147483648 = mag_neg_lt c.args.v c.requires in
     rw (to_z_pos w64 {n = c.args.v} (omega arith), zero_sub c.args.v, back64 (neg_ℤ (pos c.args.v)) (omega arith), back32 (neg_ℤ (pos c.args.v)) m)
 
-pub minus-spec : {M : Type 1} → statement M
-minus-spec = tie.close (tie.spec (λ c. search rules) sub-result cast-result-2 returns)
+pub minus_spec : {M : Type 1} → statement M
+minus_spec = tie.close (tie.spec (λ c. search rules) sub-result cast-result-2 returns)

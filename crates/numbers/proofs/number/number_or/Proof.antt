@@ -10,8 +10,8 @@ use Rattle.numbers.proofs.number.number_or.Tie as tie
 
 returns : tie.Need-returns
 returns c =
-    let s = c.before.before.before in
-    back32 c.or-default.result c.or-default.type-inv ∙ (simp (to_z-of_z s.ranges.default) at c.or-default.ensures) ∙ ap (number_or s.args.default) c.before.field-number.ensures
+    let s = c in
+    back32 c.or_default.result c.or_default.type_inv ∙ (simp (to_z-of_z s.ranges.default) at c.or_default.ensures) ∙ ap (number_or s.args.default) c.field_number.ensures
 
-pub number-or-spec : {M : Type 1} → statement M
-number-or-spec = tie.close (tie.spec (λ c κs. search rules) (λ c κs. search rules) returns)
+pub number_or_spec : {M : Type 1} → statement M
+number_or_spec = tie.close (tie.spec (λ c κs. search rules) (λ c κs. search rules) returns)

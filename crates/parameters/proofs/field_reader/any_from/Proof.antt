@@ -13,30 +13,30 @@ use borrow.Author.Rules.{rules}
 use Rattle.parameters.proofs.field_reader.any_from.Statement.{statement}
 use Rattle.parameters.proofs.field_reader.any_from.Tie as tie
 
-abbrev found : tie.After-number-or → tie.After-find
+abbrev found : tie.After-number_or-value → tie.After-find
 found d = d.before.before
 
-abbrev s : tie.After-number-or → tie.Start
+abbrev s : tie.After-number_or-value → tie.Start
 s d = (found d).before.before.before
 
-comma : (d : tie.After-number-or) → (found d).find.result ≡ index_of 44 (drop (s d).args.at (s d).args.s.now)
+comma : (d : tie.After-number_or-value) → (found d).find.result ≡ index_of 44 (drop (s d).args.at (s d).args.s.now)
 comma d = (found d).find.ensures.is ∙ ap (index_of 44) (rest (s d).args.s.now (s d).args.at)
 
-number : (d : tie.After-number-or) → let n = (s d).args.at in d.number-or.result ≡ field_or (s d).args.default (take (n + (found d).find.result - n) (drop n (s d).args.s.now))
-number d = simp (to_z-of_z (s d).ranges.default) at d.number-or.ensures
+number : (d : tie.After-number_or-value) → let n = (s d).args.at in d.number_or-value.result ≡ field_or (s d).args.default (take (n + (found d).find.result - n) (drop n (s d).args.s.now))
+number d = simp (to_z-of_z (s d).ranges.default) at d.number_or-value.ensures
 
-returns : tie.Need-returns
+returns : tie.Need-returns-then-end-s
 returns c =
     let n = c.before in
-    rw (back32 n.number-or.result n.number-or.type-inv) (any_comma _ _ _ _ _ (s n).requires (comma n) (number n) c.if1.true)
+    rw (back32 n.number_or-value.result n.number_or-value.type_inv) (any_comma _ _ _ _ _ (s n).requires (comma n) (number n) c.if-end-s.true)
 
-returns-2 : tie.Need-returns-2
+returns-2 : tie.Need-returns
 returns-2 c =
     let n = c.before in
-    rw (back32 n.number-or.result n.number-or.type-inv) (any_end _ _ _ _ _ (s n).requires (comma n) (number n) c.if1.false)
+    rw (back32 n.number_or-value.result n.number_or-value.type_inv) (any_end _ _ _ _ _ (s n).requires (comma n) (number n) c.if-end-s.false)
 
-pub any-from-spec : {M : Type 1} → statement M
-any-from-spec =
+pub any_from_spec : {M : Type 1} → statement M
+any_from_spec =
     tie.close
     (tie.spec (λ c. search rules) (λ c. search rules) (λ c. search rules) (λ c κs. search rules) (λ c. search rules)
     (λ c. search rules) (λ c. search rules) (λ c. search rules) (λ c κs. search rules) (λ c. search rules)

@@ -7,13 +7,13 @@ use borrow.Author.Rules.{rules}
 use Rattle.parameters.proofs.field_reader.number_at_place.Statement.{statement}
 use Rattle.parameters.proofs.field_reader.number_at_place.Tie as tie
 
-returns : tie.Need-returns
+returns : tie.Need-returns-then-s-at
 returns c =
-    let d = to_z-of_z c.before.before.before.ranges.default in
-    rw (back32 c.or-default.result c.or-default.type-inv) (past_end _ _ _ c.before.if1.true (simp d at c.or-default.ensures))
+    let d = to_z-of_z c.ranges.default in
+    rw (back32 c.or_default.result c.or_default.type_inv) (past_end _ _ _ c.if-s-at.true (simp d at c.or_default.ensures))
 
-returns-2 : tie.Need-returns-2
-returns-2 c = simp (to_z-of_z c.before.before.before.ranges.default) at c.any-from.ensures
+returns-2 : tie.Need-returns
+returns-2 c = simp (to_z-of_z c.ranges.default) at c.any_from.ensures
 
-pub number-at-place-spec : {M : Type 1} → statement M
-number-at-place-spec = tie.close (tie.spec (λ c κs. search rules) returns (λ c κs. search rules) returns-2)
+pub number_at_place_spec : {M : Type 1} → statement M
+number_at_place_spec = tie.close (tie.spec (λ c κs. search rules) returns (λ c κs. search rules) returns-2)

@@ -8,14 +8,14 @@ use borrow.Author.Rules.{rules}
 use Rattle.parameters.proofs.field_reader.rest_at_place.Statement.{statement}
 use Rattle.parameters.proofs.field_reader.rest_at_place.Tie as tie
 
-returns : tie.Need-returns
-returns c = let a = c.before.before.args in sym (drop_of_length-le a.s.now {i = a.at} (omega arith))
+returns : tie.Need-returns-then-s-at
+returns c = let a = c.args in sym (drop_of_length-le a.s.now {i = a.at} (omega arith))
 
-returns-2 : tie.Need-returns-2
-returns-2 c = let a = c.before.before.args in rest a.s.now a.at
+returns-2 : tie.Need-returns
+returns-2 c = let a = c.args in rest a.s.now a.at
 
-pub rest-at-place-spec : {M : Type 1} → statement M
-rest-at-place-spec =
+pub rest_at_place_spec : {M : Type 1} → statement M
+rest_at_place_spec =
     tie.close (tie.spec (λ c. search rules)
     returns (λ c. search rules) (λ c. search rules) (λ c. search rules)
     returns-2)

@@ -9,18 +9,18 @@ use borrow.Author.Rules.{rules}
 use Rattle.parameters.proofs.params.first_number.Statement.{statement}
 use Rattle.parameters.proofs.params.first_number.Tie as tie
 
-returns : tie.Need-returns
+returns : tie.Need-returns-then-s-eq0
 returns c =
-    let a = c.before.before.before in
-    back32 c.or-default.result c.or-default.type-inv
-    ∙ number_value a.args.default a.args.s.now 0 refl (past_end _ _ 0 (omega (arith, c.before.if1.true)) (simp (to_z-of_z a.ranges.default) at c.or-default.ensures))
+    let a = c in
+    back32 c.or_default.result c.or_default.type_inv
+    ∙ number_value a.args.default a.args.s.now 0 refl (past_end _ _ 0 (omega (arith, c.if-s-eq0.true)) (simp (to_z-of_z a.ranges.default) at c.or_default.ensures))
 
-returns-2 : tie.Need-returns-2
+returns-2 : tie.Need-returns
 returns-2 c =
-    let a = c.before.before.before.before in
-    let n = c.before.number-from in
-    back32 n.result.value c.struct_told.given.0.1
+    let a = c in
+    let n = c.number_from in
+    back32 n.result.value c.struct_told-1.given.0.1
     ∙ number_value a.args.default a.args.s.now 0 refl (simp (to_z-of_z a.ranges.default) at n.ensures)
 
-pub first-number-spec : {M : Type 1} → statement M
-first-number-spec = tie.close (tie.spec (λ c κs. search rules) returns (λ c κs. search rules) returns-2)
+pub first_number_spec : {M : Type 1} → statement M
+first_number_spec = tie.close (tie.spec (λ c κs. search rules) returns (λ c κs. search rules) returns-2)

@@ -17,19 +17,19 @@ none : (s : List ℕ) → length s ≡ 0 → false ≡ alone s
 none [] h = refl
 none (a ∷ s) h = absurd (omega arith)
 
-returns : tie.Need-returns
-returns c = none c.before.before.args.s.now c.if1.true
+returns : tie.Need-returns-then-s-eq0
+returns c = none c.args.s.now c.if-s-eq0.true
 
-returns-2 : tie.Need-returns-2
-returns-2 c = let one = c.before.before in c.is-mark.ensures ∙ alone_one one.before.before.before.args.s.now one.if2.true
+returns-2 : tie.Need-returns-then-s-eq1
+returns-2 c = let one = c in c.is_mark.ensures ∙ alone_one one.args.s.now one.if-s-eq1.true
 
-returns-3 : tie.Need-returns-3
+returns-3 : tie.Need-returns
 returns-3 c =
-    let mark = c.before in let more = mark.before.before in let s = more.before.before.before.args.s.now in
-    ap (λ (x : Bool). x && eqb (get_or s 1 0) 44) mark.is-mark2.ensures ∙ alone_more s (omega arith)
+    let mark = c in let more = mark in let s = more.args.s.now in
+    ap (λ (x : Bool). x && eqb (get_or s 1 0) 44) mark.is_mark-2.ensures ∙ alone_more s (omega arith)
 
-pub is-alone-spec : {M : Type 1} → statement M
-is-alone-spec =
+pub is_alone_spec : {M : Type 1} → statement M
+is_alone_spec =
     tie.close (tie.spec returns (λ c. search rules) (λ c κs. search rules)
     returns-2 (λ c. search rules) (λ c κs. search rules) (λ c. search rules)
     returns-3)

@@ -6,14 +6,14 @@ use borrow.Author.Rules.{rules}
 use Rattle.parameters.proofs.params.is_exactly.Statement.{statement}
 use Rattle.parameters.proofs.params.is_exactly.Tie as tie
 
-returns-2 : tie.Need-returns-2
+returns-2 : tie.Need-returns-then-is_mark
 returns-2 c =
-    let m = c.before.before in
-    let a = m.before.before.before.before.args in
-    alone_exactly a.s.now a.b (sym (alone_one a.s.now m.before.before.if1.false) ∙ sym m.is-mark.ensures ∙ c.before.if2.true)
+    let m = c in
+    let a = m.args in
+    alone_exactly a.s.now a.b (sym (alone_one a.s.now m.if-s-ne1.false) ∙ sym m.is_mark.ensures ∙ c.if-is_mark.true)
 
-pub is-exactly-spec : {M : Type 1} → statement M
-is-exactly-spec =
+pub is_exactly_spec : {M : Type 1} → statement M
+is_exactly_spec =
     tie.close
     (tie.spec (λ c κs. search rules) (λ c. search rules) (λ c. search rules) (λ c κs. search rules) (λ c. search rules)
     returns-2 (λ c κs. search rules) (λ c. search rules))

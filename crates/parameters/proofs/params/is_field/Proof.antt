@@ -13,31 +13,31 @@ use borrow.Author.Rules.{rules}
 use Rattle.parameters.proofs.params.is_field.Statement.{statement}
 use Rattle.parameters.proofs.params.is_field.Tie as tie
 
-told : (c : tie.Then1) → alone c.before.before.before.args.s.now ≡ true
-told c = sym c.before.is-alone.ensures ∙ c.if1.true
+told : (c : tie.Then-is_alone) → alone c.args.s.now ≡ true
+told c = sym c.is_alone.ensures ∙ c.if-is_alone.true
 
-shared-slice-read-result : tie.Need-shared-slice-read-result
-shared-slice-read-result c = let t = c.before in omega (arith, alone_some t.before.before.before.args.s.now (told t))
+shared-slice-read-result : tie.Need-bounds-s-0
+shared-slice-read-result c = let t = c.before in omega (arith, alone_some t.args.s.now (told t))
 
-returns : tie.Need-returns
-returns c = let a = c.before.before.before.before.args in alone_exactly a.s.now a.b (told c.before)
+returns : tie.Need-returns-then-is_alone
+returns c = let a = c.args in alone_exactly a.s.now a.b (told c.before)
 
-returns-2 : tie.Need-returns-2
+returns-2 : tie.Need-returns-then-t-eq1
 unfolding exactly_at exactly type_at
 returns-2 c =
-    let type = c.before.before in let t = type.type_at in
-    let b = type.before.before.before.before.args.b in
-    same_one t.result.now b c.before.if2.true ∙ ap (λ (l : List ℕ). same l (b ∷ [])) t.ensures
+    let type = c in let t = type.type_at-t in
+    let b = type.args.b in
+    same_one t.result.now b c.if-t-eq1.true ∙ ap (λ (l : List ℕ). same l (b ∷ [])) t.ensures
 
-returns-3 : tie.Need-returns-3
+returns-3 : tie.Need-returns-else-t-eq1
 unfolding exactly_at exactly type_at
 returns-3 c =
-    let type = c.before in let t = type.type_at in
-    let b = type.before.before.before.before.args.b in
-    same_other t.result.now b c.if2.false ∙ ap (λ (l : List ℕ). same l (b ∷ [])) t.ensures
+    let type = c in let t = type.type_at-t in
+    let b = type.args.b in
+    same_other t.result.now b c.if-t-eq1.false ∙ ap (λ (l : List ℕ). same l (b ∷ [])) t.ensures
 
-pub is-field-spec : {M : Type 1} → statement M
-is-field-spec =
+pub is_field_spec : {M : Type 1} → statement M
+is_field_spec =
     tie.close (tie.spec (λ c κs. search rules)
     shared-slice-read-result returns (λ c κs. search rules) (λ c. search rules)
     returns-2 returns-3)

@@ -9,12 +9,12 @@ use Rattle.parameters.proofs.params.size_from.Tie as tie
 
 returns : tie.Need-returns
 returns c =
-    let n = c.before.before.number-from in
-    let s = c.before.before.before.before in
-    rw (back32 c.max.result c.max.type-inv)
+    let n = c.number_from-n in
+    let s = c in
+    rw (back32 c.max.result c.max.type_inv)
     (size_is s.args.default s.args.s.now s.args.at n.result c.max.result
     (simp (to_z-of_z s.ranges.default) at n.ensures)
-    (simp (back32 n.result.value c.before.struct_told.given.0.1) at c.max.ensures))
+    (simp (back32 n.result.value c.struct_told-1.given.0.1) at c.max.ensures))
 
-pub size-from-spec : {M : Type 1} → statement M
-size-from-spec = tie.close (tie.spec (λ c κs. search rules) (λ c κs. search rules) returns)
+pub size_from_spec : {M : Type 1} → statement M
+size_from_spec = tie.close (tie.spec (λ c κs. search rules) (λ c κs. search rules) returns)

@@ -8,11 +8,11 @@ use borrow.Author.Rules.{rules}
 use Rattle.parameters.proofs.params.tail_two.Statement.{statement}
 use Rattle.parameters.proofs.params.tail_two.Tie as tie
 
-returns : tie.Need-returns
-returns c = sym (drop_of_length-le c.before.before.args.s.now {i = 2} (omega arith))
+returns : tie.Need-returns-then-s-lt2
+returns c = sym (drop_of_length-le c.args.s.now {i = 2} (omega arith))
 
-pub tail-two-spec : {M : Type 1} → statement M
-tail-two-spec =
+pub tail_two_spec : {M : Type 1} → statement M
+tail_two_spec =
     tie.close (tie.spec (λ c. search rules)
     returns (λ c. search rules) (λ c. search rules) (λ c. search rules)
-    (λ c. rest c.before.before.args.s.now 2))
+    (λ c. rest c.args.s.now 2))

@@ -9,7 +9,7 @@ use Rattle.parameters.proofs.params.type_at.Tie as tie
 
 returns : tie.Need-returns
 unfolding type_at
-returns c = c.trim.ensures ∙ ap trim c.before.first_field.ensures
+returns c = c.trim.ensures ∙ ap trim c.first_field.ensures
 
-pub type-at-spec : {M : Type 1} → statement M
-type-at-spec = tie.close (tie.spec (λ c κs. search rules) (λ c κs. search rules) returns)
+pub type_at_spec : {M : Type 1} → statement M
+type_at_spec = tie.close (tie.spec (λ c κs. search rules) (λ c κs. search rules) returns)

@@ -3,5 +3,5 @@ use borrow.Author.Rules.{rules}
 use Rattle.profile.proofs.unit.sized.Statement.{statement}
 use Rattle.profile.proofs.unit.sized.Tie as tie
 
-pub sized-spec : {M : Type 1} → statement M
-sized-spec = tie.close (tie.spec (λ c. search rules) (λ c. search rules) (λ c. simp c.enum_told.given.1) (λ c. simp c.before.o.given.1))
+pub sized_spec : {M : Type 1} → statement M
+sized_spec = tie.close (tie.spec (λ c. search rules) (λ c. search rules) (λ c. simp c.in-Fine.is) (λ c. simp c.in-To.is))

@@ -6,9 +6,9 @@ use Rattle.structs.proofs.answer.printed.Tie as tie
 
 returns : tie.Need-returns
 returns c =
-    let n = c.before in
-    let q = n.before.before.args.counts in
-    rw (n.nothing.ensures, back32 q.sets c.struct_told.given.0.1, back32 q.copies c.struct_told.given.1.0.1)
+    let n = c in
+    let q = n.args.counts in
+    rw (n.nothing-element.ensures, back32 q.sets c.struct_told-1.given.0.1, back32 q.copies c.struct_told-1.given.1.0.1)
 
-pub printed-spec : {M : Type 1} → statement M
-printed-spec = tie.close (tie.spec (λ c κs. search rules) returns)
+pub printed_spec : {M : Type 1} → statement M
+printed_spec = tie.close (tie.spec (λ c κs. search rules) returns)

@@ -4,7 +4,7 @@ use Rattle.structs.proofs.element.code_39.Statement.{statement}
 use Rattle.structs.proofs.element.code_39.Tie as tie
 
 returns : tie.Need-returns
-returns c = rw (c.before.before.before.before.barred.ensures, c.before.before.before.flag.ensures) (search rules)
+returns c = rw (c.barred-a.ensures, c.flag.ensures) (search rules)
 
-pub code-39-spec : {M : Type 1} → statement M
-code-39-spec = tie.close (tie.spec (λ c κs. search rules) (λ c κs. search rules) returns)
+pub code_39_spec : {M : Type 1} → statement M
+code_39_spec = tie.close (tie.spec (λ c κs. search rules) (λ c κs. search rules) returns)

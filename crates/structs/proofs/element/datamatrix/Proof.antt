@@ -4,7 +4,7 @@ use Rattle.structs.proofs.element.datamatrix.Statement.{statement}
 use Rattle.structs.proofs.element.datamatrix.Tie as tie
 
 returns : tie.Need-returns
-returns c = rw c.before.before.before.placed.ensures (search rules)
+returns c = rw c.placed-a.ensures (search rules)
 
-pub datamatrix-spec : {M : Type 1} → statement M
-datamatrix-spec = tie.close (tie.spec (λ c κs. search rules) returns)
+pub datamatrix_spec : {M : Type 1} → statement M
+datamatrix_spec = tie.close (tie.spec (λ c κs. search rules) returns)

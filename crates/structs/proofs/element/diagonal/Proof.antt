@@ -4,7 +4,7 @@ use Rattle.structs.proofs.element.diagonal.Statement.{statement}
 use Rattle.structs.proofs.element.diagonal.Tie as tie
 
 returns : tie.Need-returns
-returns c = rw (c.before.before.before.before.placed.ensures, c.before.before.before.flag.ensures) (search rules)
+returns c = rw (c.placed-a.ensures, c.flag.ensures) (search rules)
 
-pub diagonal-spec : {M : Type 1} → statement M
-diagonal-spec = tie.close (tie.spec (λ c κs. search rules) (λ c κs. search rules) returns)
+pub diagonal_spec : {M : Type 1} → statement M
+diagonal_spec = tie.close (tie.spec (λ c κs. search rules) (λ c κs. search rules) returns)

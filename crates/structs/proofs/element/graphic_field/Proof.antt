@@ -4,7 +4,7 @@ use Rattle.structs.proofs.element.graphic_field.Statement.{statement}
 use Rattle.structs.proofs.element.graphic_field.Tie as tie
 
 returns : tie.Need-returns
-returns c = rw c.before.placed.ensures (search rules)
+returns c = rw c.placed-a.ensures (search rules)
 
-pub graphic-field-spec : {M : Type 1} → statement M
-graphic-field-spec = tie.close (tie.spec (λ c κs. search rules) returns)
+pub graphic_field_spec : {M : Type 1} → statement M
+graphic_field_spec = tie.close (tie.spec (λ c κs. search rules) returns)

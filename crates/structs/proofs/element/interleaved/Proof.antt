@@ -4,7 +4,7 @@ use Rattle.structs.proofs.element.interleaved.Statement.{statement}
 use Rattle.structs.proofs.element.interleaved.Tie as tie
 
 returns : tie.Need-returns
-returns c = rw (c.before.before.before.before.barred.ensures, c.before.before.before.flag.ensures) (search rules)
+returns c = rw (c.barred-a.ensures, c.flag.ensures) (search rules)
 
-pub interleaved-spec : {M : Type 1} → statement M
-interleaved-spec = tie.close (tie.spec (λ c κs. search rules) (λ c κs. search rules) returns)
+pub interleaved_spec : {M : Type 1} → statement M
+interleaved_spec = tie.close (tie.spec (λ c κs. search rules) (λ c κs. search rules) returns)

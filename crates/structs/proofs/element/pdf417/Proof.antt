@@ -4,7 +4,7 @@ use Rattle.structs.proofs.element.pdf417.Statement.{statement}
 use Rattle.structs.proofs.element.pdf417.Tie as tie
 
 returns : tie.Need-returns
-returns c = let told = c.before.before.before.before in rw (told.before.before.before.placed.ensures, told.before.before.rotation.ensures, told.before.flag.ensures) (search rules)
+returns c = let told = c in rw (told.placed-a.ensures, told.rotation.ensures, told.flag.ensures) (search rules)
 
-pub pdf417-spec : {M : Type 1} → statement M
-pdf417-spec = tie.close (tie.spec (λ c κs. search rules) (λ c κs. search rules) (λ c κs. search rules) returns)
+pub pdf417_spec : {M : Type 1} → statement M
+pdf417_spec = tie.close (tie.spec (λ c κs. search rules) (λ c κs. search rules) (λ c κs. search rules) returns)

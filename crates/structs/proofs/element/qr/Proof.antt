@@ -4,7 +4,7 @@ use Rattle.structs.proofs.element.qr.Statement.{statement}
 use Rattle.structs.proofs.element.qr.Tie as tie
 
 returns : tie.Need-returns
-returns c = rw (c.before.before.placed.ensures, c.before.level.ensures) (search rules)
+returns c = rw (c.placed-a.ensures, c.level.ensures) (search rules)
 
-pub qr-spec : {M : Type 1} → statement M
-qr-spec = tie.close (tie.spec (λ c κs. search rules) (λ c κs. search rules) returns)
+pub qr_spec : {M : Type 1} → statement M
+qr_spec = tie.close (tie.spec (λ c κs. search rules) (λ c κs. search rules) returns)

@@ -4,7 +4,7 @@ use Rattle.structs.proofs.element.text_field.Statement.{statement}
 use Rattle.structs.proofs.element.text_field.Tie as tie
 
 returns : tie.Need-returns
-returns c = let flag = c.before.before.before in rw (flag.before.before.placed.ensures, flag.before.rotation.ensures, flag.flag.ensures) (search rules)
+returns c = let flag = c in rw (flag.placed-a.ensures, flag.rotation.ensures, flag.flag.ensures) (search rules)
 
-pub text-field-spec : {M : Type 1} → statement M
-text-field-spec = tie.close (tie.spec (λ c κs. search rules) (λ c κs. search rules) (λ c κs. search rules) returns)
+pub text_field_spec : {M : Type 1} → statement M
+text_field_spec = tie.close (tie.spec (λ c κs. search rules) (λ c κs. search rules) (λ c κs. search rules) returns)

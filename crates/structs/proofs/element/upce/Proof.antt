@@ -4,7 +4,7 @@ use Rattle.structs.proofs.element.upce.Statement.{statement}
 use Rattle.structs.proofs.element.upce.Tie as tie
 
 returns : tie.Need-returns
-returns c = rw c.before.before.barred.ensures (search rules)
+returns c = rw c.barred-a.ensures (search rules)
 
-pub upce-spec : {M : Type 1} → statement M
-upce-spec = tie.close (tie.spec (λ c κs. search rules) returns)
+pub upce_spec : {M : Type 1} → statement M
+upce_spec = tie.close (tie.spec (λ c κs. search rules) returns)

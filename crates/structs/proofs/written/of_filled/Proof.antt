@@ -4,11 +4,11 @@ use borrow.Author.Rules.{rules}
 use Rattle.structs.proofs.written.of_filled.Statement.{statement}
 use Rattle.structs.proofs.written.of_filled.Tie as tie
 
-returns : tie.Need-returns
-returns c = rw c.before.a.given.1
+returns : tie.Need-returns-in-Bytes
+returns c = rw c.in-Bytes.is
 
-returns-2 : tie.Need-returns-2
-returns-2 c = rw (c.number.ensures, c.before.before.a2.given.1) (flat_refusal c.before.before.a2.given.0.0 c.before.before.a2.given.0.1.0)
+returns-2 : tie.Need-returns-in-Refused
+returns-2 c = rw (c.number.ensures, c.in-Refused.is) (flat_refusal c.in-Refused.k c.in-Refused.p)
 
-pub of-filled-spec : {M : Type 1} → statement M
-of-filled-spec = tie.close (tie.spec (λ c. search rules) (λ c. search rules) (λ c κs. search rules) (λ c. search rules) returns returns-2)
+pub of_filled_spec : {M : Type 1} → statement M
+of_filled_spec = tie.close (tie.spec (λ c. search rules) (λ c. search rules) (λ c κs. search rules) (λ c. search rules) returns returns-2)

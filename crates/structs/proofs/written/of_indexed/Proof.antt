@@ -4,11 +4,11 @@ use borrow.Author.Rules.{rules}
 use Rattle.structs.proofs.written.of_indexed.Statement.{statement}
 use Rattle.structs.proofs.written.of_indexed.Tie as tie
 
-returns : tie.Need-returns
-returns c = rw c.before.a.given.1
+returns : tie.Need-returns-in-Labels
+returns c = rw c.in-Labels.is
 
-returns-2 : tie.Need-returns-2
-returns-2 c = rw (c.number.ensures, c.before.before.a2.given.1) (flat_uncounted c.before.before.a2.given.0.0 c.before.before.a2.given.0.1.0)
+returns-2 : tie.Need-returns-in-Refused
+returns-2 c = rw (c.number.ensures, c.in-Refused.is) (flat_uncounted c.in-Refused.k c.in-Refused.p)
 
-pub of-indexed-spec : {M : Type 1} → statement M
-of-indexed-spec = tie.close (tie.spec (λ c. search rules) (λ c. search rules) (λ c κs. search rules) (λ c. search rules) returns returns-2)
+pub of_indexed_spec : {M : Type 1} → statement M
+of_indexed_spec = tie.close (tie.spec (λ c. search rules) (λ c. search rules) (λ c κs. search rules) (λ c. search rules) returns returns-2)

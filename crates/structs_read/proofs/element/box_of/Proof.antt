@@ -4,7 +4,7 @@ use Rattle.structs_read.proofs.element.box_of.Statement.{statement}
 use Rattle.structs_read.proofs.element.box_of.Tie as tie
 
 returns : tie.Need-returns
-returns c = rw (c.before.before.at.ensures, c.before.colour-of.ensures) (search rules)
+returns c = rw (c.at-position.ensures, c.colour_of-line_color.ensures) (search rules)
 
-pub box-of-spec : {M : Type 1} → statement M
-box-of-spec = tie.close (tie.spec (λ c κs. search rules) (λ c κs. search rules) returns)
+pub box_of_spec : {M : Type 1} → statement M
+box_of_spec = tie.close (tie.spec (λ c κs. search rules) (λ c κs. search rules) returns)

@@ -4,7 +4,7 @@ use Rattle.structs_read.proofs.element.font_of.Statement.{statement}
 use Rattle.structs_read.proofs.element.font_of.Tie as tie
 
 returns : tie.Need-returns
-returns c = rw c.orientation-of.ensures (search rules)
+returns c = rw c.orientation_of-rotation.ensures (search rules)
 
-pub font-of-spec : {M : Type 1} → statement M
-font-of-spec = tie.close (tie.spec (λ c κs. search rules) returns)
+pub font_of_spec : {M : Type 1} → statement M
+font_of_spec = tie.close (tie.spec (λ c κs. search rules) returns)

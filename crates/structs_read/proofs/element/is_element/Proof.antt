@@ -4,8 +4,8 @@ use Rattle.structs_read.proofs.element.is_element.Statement.{statement}
 use Rattle.structs_read.proofs.element.is_element.Tie as tie
 
 returns : tie.Need-returns
-returns c = rw (c.before.struct-of.ensures, c.before.before.element-of.ensures) at c.same.ensures
+returns c = rw (c.struct_of.ensures, c.element_of.ensures) at c.same.ensures
 
-pub is-element-spec : {M : Type 1} → statement M
-is-element-spec =
+pub is_element_spec : {M : Type 1} → statement M
+is_element_spec =
     tie.close (tie.spec (λ c κs. search rules) (λ c κs. search rules) (λ c κs. search rules) returns)

@@ -4,7 +4,7 @@ use Rattle.structs_read.proofs.element.qr_of.Statement.{statement}
 use Rattle.structs_read.proofs.element.qr_of.Tie as tie
 
 returns : tie.Need-returns
-returns c = rw (c.before.before.before.at.ensures, c.before.before.span.ensures, c.before.level-of.ensures) (search rules)
+returns c = rw (c.at-position.ensures, c.span-data.ensures, c.level_of-error_correction.ensures) (search rules)
 
-pub qr-of-spec : {M : Type 1} → statement M
-qr-of-spec = tie.close (tie.spec (λ c κs. search rules) (λ c κs. search rules) (λ c κs. search rules) returns)
+pub qr_of_spec : {M : Type 1} → statement M
+qr_of_spec = tie.close (tie.spec (λ c κs. search rules) (λ c κs. search rules) (λ c κs. search rules) returns)

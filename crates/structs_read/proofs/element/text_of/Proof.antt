@@ -4,8 +4,8 @@ use Rattle.structs_read.proofs.element.text_of.Statement.{statement}
 use Rattle.structs_read.proofs.element.text_of.Tie as tie
 
 returns : tie.Need-returns
-returns c = rw (c.before.before.before.before.at.ensures, c.before.before.before.scale_of.ensures, c.before.before.font-of.ensures, c.before.span.ensures) (search rules)
+returns c = rw (c.at-position.ensures, c.scale_of-scale.ensures, c.font_of-font.ensures, c.span-text.ensures) (search rules)
 
-pub text-of-spec : {M : Type 1} → statement M
-text-of-spec =
+pub text_of_spec : {M : Type 1} → statement M
+text_of_spec =
     tie.close (tie.spec (λ c κs. search rules) (λ c κs. search rules) (λ c κs. search rules) (λ c κs. search rules) returns)

@@ -7,16 +7,16 @@ use Rattle.structs_read.proofs.same.same.Tie as tie
 returns : tie.Need-returns
 unfolding same_element
 returns c =
-    let modules = c.before.before.before in
-    let places = modules.before.before in
+    let modules = c in
+    let places = modules in
     rw (
-      places.before.same_flags.ensures,
-      places.same-places.ensures,
-      modules.before.same-counts.ensures,
-      modules.same-modules.ensures,
-      c.before.before.same-scales.ensures,
-      c.before.same-sizes.ensures,
-      c.same-data.ensures,
+      places.same_flags.ensures,
+      places.same_places.ensures,
+      modules.same_counts.ensures,
+      modules.same_modules.ensures,
+      c.same_scales.ensures,
+      c.same_sizes.ensures,
+      c.same_data.ensures,
     )
 
 pub same_spec : {M : Type 1} → statement M

@@ -4,7 +4,7 @@ use Rattle.structs_read.proofs.same.same_bits.Statement.{statement}
 use Rattle.structs_read.proofs.same.same_bits.Tie as tie
 
 returns : tie.Need-returns
-returns c = rw (c.before.bits.ensures, c.bits2.ensures) (search rules)
+returns c = rw (c.bits.ensures, c.bits-2.ensures) (search rules)
 
-pub same-bits-spec : {M : Type 1} → statement M
-same-bits-spec = tie.close (tie.spec (λ c κs. search rules) (λ c κs. search rules) returns)
+pub same_bits_spec : {M : Type 1} → statement M
+same_bits_spec = tie.close (tie.spec (λ c κs. search rules) (λ c κs. search rules) returns)

@@ -9,9 +9,9 @@ use Rattle.texts.proofs.fonts.text_width.Tie as tie
 returns : tie.Need-returns
 unfolding width_of
 returns c =
-    let s = c.before.before.before in
+    let s = c in
     simp (to_z-of_z s.ranges.height, to_z-of_z s.ranges.across)
 
-pub text-width-spec : {M : Type 1} → statement M
-text-width-spec =
+pub text_width_spec : {M : Type 1} → statement M
+text_width_spec =
     tie.close (tie.spec (λ c. search rules) (λ c. search rules) (λ c. search rules) returns)

@@ -40,22 +40,22 @@ did_later at size r (reading.Refused n) = refl
 line_moved : (at size : ℕ) (r : LabelPosition) (t : List ℕ) → did size (act_of r (later_reading at (read_line t r))) ≡ moved epl at (line_turn size r t)
 line_moved at size r t = did_later at size r (read_line t r) ∙ ap (moved epl at) (line_turn_lem size r t)
 
-slice-aggregate-read-line : tie.Need-slice-aggregate-read-line
-slice-aggregate-read-line c = let f = c.before.before in sym (length-take-le f.find.result f.before.before.args.rest.now f.find.ensures.fits)
+slice-aggregate-read-line : tie.Need-slice_bounds-read_line-end
+slice-aggregate-read-line c = let f = c in sym (length-take-le f.find-n.result f.args.rest.now f.find-n.ensures.fits)
 
-read-line-requires : tie.Need-read-line-requires
-read-line-requires c κs = let f = c.before.before in omega (arith, length-take f.find.result f.before.before.args.rest.now)
+read-line-requires : tie.Need-read_line-requires
+read-line-requires c κs = let f = c in omega (arith, length-take f.find-n.result f.args.rest.now)
 
 returns : tie.Need-returns
 returns c =
-    let z = c.before.before.before in
-    let f = z.before in
-    let a = f.before.before.args in
-    rw (← f.find.ensures.is, ← z.line-size.ensures, ← line_moved a.at z.line-size.result a.reference (take f.find.result a.rest.now), ← c.before.read-line.ensures)
-    c.line-unit.ensures
+    let z = c in
+    let f = z in
+    let a = f.args in
+    rw (← f.find-n.ensures.is, ← z.line_size-size.ensures, ← line_moved a.at z.line_size-size.result a.reference (take f.find-n.result a.rest.now), ← c.read_line.ensures)
+    c.line_unit.ensures
 
-pub read-text-line-spec : {M : Type 1} → statement M
-read-text-line-spec =
+pub read_text_line_spec : {M : Type 1} → statement M
+read_text_line_spec =
     tie.close
     (tie.spec
     (λ c κs. search rules)

@@ -17,29 +17,29 @@ reading_none : (t : List ℕ) (r : LabelPosition) → length t ≡ 0 → reading
 reading_none [] r h = line_none r
 reading_none (b ∷ t) r h = absurd (omega arith)
 
-returns : tie.Need-returns
-returns c = let a = c.before.before.args in rw (reading_none a.rest.now a.reference c.if1.true)
+returns : tie.Need-returns-then-rest-eq0
+returns c = let a = c.args in rw (reading_none a.rest.now a.reference c.if-rest-eq0.true)
 
-returns-2 : tie.Need-returns-2
+returns-2 : tie.Need-returns-in-NoBlock
 returns-2 c =
-    let b = c.before.before.before in
-    let a = b.before.before.before.args in
-    rw (line_reads a.rest.now a.reference (block_none a.at a.rest.now a.reference (sym b.read-block.ensures ∙ c.before.enum_told.given.1)) (omega (arith, b.before.if1.false))) c.read-text-line.ensures
+    let b = c in
+    let a = b.args in
+    rw (line_reads a.rest.now a.reference (block_none a.at a.rest.now a.reference (sym b.read_block.ensures ∙ c.in-NoBlock.is)) (omega (arith, b.if-rest-eq0.false))) c.read_text_line.ensures
 
-returns-3 : tie.Need-returns-3
+returns-3 : tie.Need-returns-in-Refused
 returns-3 c =
-    let b = c.before.before.before in
-    let a = b.before.before.before.args in
-    sym (block_fault a.at a.rest.now a.reference c.before.n.given.0.0 (sym b.read-block.ensures ∙ c.before.n.given.1))
+    let b = c in
+    let a = b.args in
+    sym (block_fault a.at a.rest.now a.reference c.in-Refused.n (sym b.read_block.ensures ∙ c.in-Refused.is))
 
-returns-4 : tie.Need-returns-4
+returns-4 : tie.Need-returns-in-Element
 returns-4 c =
-    let b = c.before.before.before in
-    let a = b.before.before.before.args in
-    sym (block_gives a.at a.rest.now a.reference c.before.e.given.0.1.0 c.before.e.given.0.0 (sym b.read-block.ensures ∙ c.before.e.given.1))
+    let b = c in
+    let a = b.args in
+    sym (block_gives a.at a.rest.now a.reference c.in-Element.size c.in-Element.e (sym b.read_block.ensures ∙ c.in-Element.is))
 
-pub read-unit-spec : {M : Type 1} → statement M
-read-unit-spec =
+pub read_unit_spec : {M : Type 1} → statement M
+read_unit_spec =
     tie.close
     (tie.spec
     returns

@@ -6,5 +6,5 @@ use Rattle.writing_element.proofs.place.is_room.Tie as tie
 returns : tie.Need-returns
 returns c = rw c.holds.ensures (search rules)
 
-pub is-room-spec : {M : Type 1} → statement M
-is-room-spec = tie.close (tie.spec (λ c κs. search rules) returns)
+pub is_room_spec : {M : Type 1} → statement M
+is_room_spec = tie.close (tie.spec (λ c κs. search rules) returns)

@@ -10,25 +10,25 @@ use borrow.Author.Rules.{rules}
 use Rattle.writing_element.proofs.place.put_plain.Statement.{statement}
 use Rattle.writing_element.proofs.place.put_plain.Tie as tie
 
-returns : tie.Need-returns
+returns : tie.Need-returns-then-is_element
 returns c =
-    let put = c.before.before in
-    let flat = put.before in
-    let element = flat.before in
-    let good = element.before.before in
-    let a = good.before.before.before.before.args in
-    let f = flat.struct-of.ensures ∙ ap flat_element element.element-of.ensures in
+    let put = c in
+    let flat = put in
+    let element = flat in
+    let good = element in
+    let a = good.args in
+    let f = flat.struct_of.ensures ∙ ap flat_element element.element_of.ensures in
     puts_as
-    (ap text_of (plain_good a.input.now a.x (sym good.before.is-element.ensures ∙ good.if1.true) ∙ sym (flat_due_lem a.input.now (element_of a.x))))
-    (rw f at put.put-flat.ensures)
+    (ap text_of (plain_good a.input.now a.x (sym good.is_element.ensures ∙ good.if-is_element.true) ∙ sym (flat_due_lem a.input.now (element_of a.x))))
+    (rw f at put.put_flat.ensures)
 
-returns-2 : tie.Need-returns-2
+returns-2 : tie.Need-returns
 returns-2 c =
-    let a = c.before.before.before.before in
-    puts_none (no_text a.args.input.now a.args.x (sym c.before.is-element.ensures ∙ c.if1.false))
+    let a = c in
+    puts_none (no_text a.args.input.now a.args.x (sym c.is_element.ensures ∙ c.if-is_element.false))
 
-pub put-plain-spec : {M : Type 1} → statement M
-put-plain-spec =
+pub put_plain_spec : {M : Type 1} → statement M
+put_plain_spec =
     tie.close
     (tie.spec
     (λ c κs. search rules)

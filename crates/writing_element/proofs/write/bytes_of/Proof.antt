@@ -6,5 +6,5 @@ use Rattle.writing_element.proofs.write.bytes_of.Tie as tie
 returns : tie.Need-returns
 returns c = c.part.ensures
 
-pub bytes-of-spec : {M : Type 1} → statement M
-bytes-of-spec = tie.close (tie.spec (λ c κs. search rules) returns)
+pub bytes_of_spec : {M : Type 1} → statement M
+bytes_of_spec = tie.close (tie.spec (λ c κs. search rules) returns)

@@ -4,10 +4,10 @@ use Rattle.writing_label.proofs.at_300.turn_300.Statement.{statement}
 use Rattle.writing_label.proofs.at_300.turn_300.Tie as tie
 
 returns : tie.Need-returns
-returns c = rw c.before.before.before.dots-of.ensures at c.before.before.turn.ensures
+returns c = rw c.dots_of.ensures at c.turn.ensures
 
-pub turn-300-spec : {M : Type 1} → statement M
-turn-300-spec =
+pub turn_300_spec : {M : Type 1} → statement M
+turn_300_spec =
     tie.close
     (tie.spec
     (λ c κs. search rules)

@@ -12,15 +12,15 @@ use Rattle.writing_label.proofs.label.print_len.Tie as tie
 
 returns : tie.Need-returns
 returns c =
-    let s = c.before.before in
+    let s = c in
     let a = ap (λ (z : ℤ). length (decimal z)) (to_z-of_z s.ranges.sets) in
     let b = ap (λ (z : ℤ). length (decimal z)) (to_z-of_z s.ranges.copies) in
-    let d = c.before.decimal-len.ensures in
-    let e = c.decimal-len2.ensures in
+    let d = c.decimal_len.ensures in
+    let e = c.decimal_len-2.ensures in
     record { is = omega (arith, a, b, d.is, e.is, print_long s.args.sets s.args.copies); short = omega (arith, d.small, e.small) }
 
-pub print-len-spec : {M : Type 1} → statement M
-print-len-spec =
+pub print_len_spec : {M : Type 1} → statement M
+print_len_spec =
     tie.close
     (tie.spec
     (λ c κs. search rules)

@@ -7,16 +7,16 @@ use borrow.Author.Rules.{rules}
 use Rattle.writing_label.proofs.turn.turn.Statement.{statement}
 use Rattle.writing_label.proofs.turn.turn.Tie as tie
 
-returns : tie.Need-returns
-returns c = record { is = simp c.if1.true; small = λ h. absurd (true≢false (sym c.if1.true ∙ h)) }
+returns : tie.Need-returns-then-c
+returns c = record { is = simp c.if-c.true; small = λ h. absurd (true≢false (sym c.if-c.true ∙ h)) }
 
-returns-2 : tie.Need-returns-2
+returns-2 : tie.Need-returns
 returns-2 c =
-    let put = c.before.before.before in
-    let on = put.before.before in
-    let k = put.put-plain.ensures in
+    let put = c in
+    let on = put in
+    let k = put.put_plain-n.ensures in
     record {
-      is = simp on.if1.false (λ i. ((c.after.ensures ∙ ap (after_of on.before.before.before.args.c) k.len) i, k.buffer i));
+      is = simp on.if-c.false (λ i. ((c.after.ensures ∙ ap (after_of on.args.c) k.len) i, k.buffer i));
       small = λ _. omega (arith, k.len, k.small);
     }
 

@@ -4,7 +4,7 @@ use Rattle.writing_limits.proofs.fine.fine_diagonal.Statement.{statement}
 use Rattle.writing_limits.proofs.fine.fine_diagonal.Tie as tie
 
 returns : tie.Need-returns
-returns c = rw (c.before.is-cornered.ensures, c.is-sloped.ensures)
+returns c = rw (c.is_cornered.ensures, c.is_sloped.ensures)
 
-pub fine-diagonal-spec : {M : Type 1} → statement M
-fine-diagonal-spec = tie.close (tie.spec (λ c κs. search rules) (λ c κs. search rules) returns)
+pub fine_diagonal_spec : {M : Type 1} → statement M
+fine_diagonal_spec = tie.close (tie.spec (λ c κs. search rules) (λ c κs. search rules) returns)

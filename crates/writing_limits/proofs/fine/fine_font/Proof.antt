@@ -6,20 +6,20 @@ use Rattle.writing_limits.proofs.fine.fine_font.Tie as tie
 
 returns : tie.Need-returns
 returns c =
-    let info = c.before.before.before in
-    let font = info.before.before.before.field_at in
-    let horizontal = info.before.before.field-at2 in
-    let vertical = info.before.field-at3 in
+    let info = c in
+    let font = info.field_at in
+    let horizontal = info.field_at-2 in
+    let vertical = info.field_at-3 in
     rw (
-      c.before.before.in_range.ensures,
-      c.before.in-range2.ensures,
-      c.is-sized.ensures,
-      rw (back32 font.result font.type-inv, font.ensures, back32 horizontal.result horizontal.type-inv, horizontal.ensures, back32 vertical.result vertical.type-inv, vertical.ensures)
-          at info.font-info.ensures,
+      c.in_range.ensures,
+      c.in_range-2.ensures,
+      c.is_sized.ensures,
+      rw (back32 font.result font.type_inv, font.ensures, back32 horizontal.result horizontal.type_inv, horizontal.ensures, back32 vertical.result vertical.type_inv, vertical.ensures)
+          at info.font_info-s.ensures,
     )
 
-pub fine-font-spec : {M : Type 1} → statement M
-fine-font-spec =
+pub fine_font_spec : {M : Type 1} → statement M
+fine_font_spec =
     tie.close
     (tie.spec (λ c κs. search rules) (λ c κs. search rules) (λ c κs. search rules) (λ c κs. search rules)
     (λ c κs. search rules) (λ c κs. search rules) (λ c κs. search rules) returns)

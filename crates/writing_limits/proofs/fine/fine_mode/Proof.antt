@@ -4,7 +4,7 @@ use Rattle.writing_limits.proofs.fine.fine_mode.Statement.{statement}
 use Rattle.writing_limits.proofs.fine.fine_mode.Tie as tie
 
 returns : tie.Need-returns
-returns c = rw (c.before.in_range.ensures, c.in-range2.ensures)
+returns c = rw (c.in_range.ensures, c.in_range-2.ensures)
 
-pub fine-mode-spec : {M : Type 1} → statement M
-fine-mode-spec = tie.close (tie.spec (λ c κs. search rules) (λ c κs. search rules) returns)
+pub fine_mode_spec : {M : Type 1} → statement M
+fine_mode_spec = tie.close (tie.spec (λ c κs. search rules) (λ c κs. search rules) returns)

@@ -5,10 +5,10 @@ use Rattle.writing_limits.proofs.fine.fine_pdf417.Tie as tie
 
 returns : tie.Need-returns
 returns c =
-    let rows = c.before in
-    let columns = rows.before in
-    let security = columns.before in
-    rw (security.before.before.in_range.ensures, security.before.is-number.ensures, security.in-range2.ensures, columns.in-range3.ensures, rows.in-range4.ensures, c.in-range5.ensures)
+    let rows = c in
+    let columns = rows in
+    let security = columns in
+    rw (security.in_range.ensures, security.is_number.ensures, security.in_range-2.ensures, columns.in_range-3.ensures, rows.in_range-4.ensures, c.in_range-5.ensures)
 
-pub fine-pdf417-spec : {M : Type 1} → statement M
-fine-pdf417-spec = tie.close (tie.spec (λ c κs. search rules) (λ c κs. search rules) (λ c κs. search rules) (λ c κs. search rules) (λ c κs. search rules) (λ c κs. search rules) returns)
+pub fine_pdf417_spec : {M : Type 1} → statement M
+fine_pdf417_spec = tie.close (tie.spec (λ c κs. search rules) (λ c κs. search rules) (λ c κs. search rules) (λ c κs. search rules) (λ c κs. search rules) (λ c κs. search rules) returns)

@@ -7,11 +7,11 @@ use Rattle.writing_limits.proofs.fine.fine_ratio.Tie as tie
 
 returns : tie.Need-returns
 returns c =
-    let a = c.before.before.before.field_at in
-    let b = c.before.before.field-at2 in
-    rw c.same-bits.ensures (rw (rw (back32 a.result a.type-inv, a.ensures, back32 b.result b.type-inv, b.ensures) at c.before.bar-ratio.ensures) refl)
+    let a = c.field_at in
+    let b = c.field_at-2 in
+    rw c.same_bits.ensures (rw (rw (back32 a.result a.type_inv, a.ensures, back32 b.result b.type_inv, b.ensures) at c.bar_ratio.ensures) refl)
 
-pub fine-ratio-spec : {M : Type 1} → statement M
-fine-ratio-spec =
+pub fine_ratio_spec : {M : Type 1} → statement M
+fine_ratio_spec =
     tie.close
     (tie.spec (λ c κs. search rules) (λ c κs. search rules) (λ c κs. search rules) (λ c κs. search rules) returns)

@@ -6,8 +6,8 @@ use Rattle.writing_limits.proofs.fine.fine_rows.Tie as tie
 
 returns : tie.Need-returns
 returns c =
-    let a = c.before.field_at in
-    rw (c.before.before.in_range.ensures, rw (back32 a.result a.type-inv, a.ensures) at c.is-rows.ensures)
+    let a = c.field_at in
+    rw (c.in_range.ensures, rw (back32 a.result a.type_inv, a.ensures) at c.is_rows.ensures)
 
-pub fine-rows-spec : {M : Type 1} → statement M
-fine-rows-spec = tie.close (tie.spec (λ c κs. search rules) (λ c κs. search rules) (λ c κs. search rules) returns)
+pub fine_rows_spec : {M : Type 1} → statement M
+fine_rows_spec = tie.close (tie.spec (λ c κs. search rules) (λ c κs. search rules) (λ c κs. search rules) returns)

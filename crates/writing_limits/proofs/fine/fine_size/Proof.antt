@@ -4,7 +4,7 @@ use Rattle.writing_limits.proofs.fine.fine_size.Statement.{statement}
 use Rattle.writing_limits.proofs.fine.fine_size.Tie as tie
 
 returns : tie.Need-returns
-returns c = rw (c.before.before.before.in_range.ensures, c.before.before.in-range2.ensures, c.before.in-range3.ensures, c.is-number.ensures)
+returns c = rw (c.in_range.ensures, c.in_range-2.ensures, c.in_range-3.ensures, c.is_number.ensures)
 
-pub fine-size-spec : {M : Type 1} → statement M
-fine-size-spec = tie.close (tie.spec (λ c κs. search rules) (λ c κs. search rules) (λ c κs. search rules) (λ c κs. search rules) returns)
+pub fine_size_spec : {M : Type 1} → statement M
+fine_size_spec = tie.close (tie.spec (λ c κs. search rules) (λ c κs. search rules) (λ c κs. search rules) (λ c κs. search rules) returns)

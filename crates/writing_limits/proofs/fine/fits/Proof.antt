@@ -7,15 +7,15 @@ use borrow.Author.Rules.{rules}
 use Rattle.writing_limits.proofs.fine.fits.Statement.{statement}
 use Rattle.writing_limits.proofs.fine.fits.Tie as tie
 
-returns : tie.Need-returns
+returns : tie.Need-returns-in-Fits
 returns c =
-    let a = c.before.before.before in
-    sums_fits (a.args.a +ℤ a.args.b) _ (sym (rw (to_z-of_z a.ranges.a, to_z-of_z a.ranges.b) at c.before.before.checked-add.ensures) ∙ c.enum_told.given.1)
+    let a = c in
+    sums_fits (a.args.a +ℤ a.args.b) _ (sym (rw (to_z-of_z a.ranges.a, to_z-of_z a.ranges.b) at c.checked_add.ensures) ∙ c.in-Fits.is)
 
-returns-2 : tie.Need-returns-2
+returns-2 : tie.Need-returns-in-Outside
 returns-2 c =
-    let a = c.before.before.before in
-    sums_outside (a.args.a +ℤ a.args.b) (sym (rw (to_z-of_z a.ranges.a, to_z-of_z a.ranges.b) at c.before.before.checked-add.ensures) ∙ c.enum-told2.given.1)
+    let a = c in
+    sums_outside (a.args.a +ℤ a.args.b) (sym (rw (to_z-of_z a.ranges.a, to_z-of_z a.ranges.b) at c.checked_add.ensures) ∙ c.in-Outside.is)
 
-pub fits-spec : {M : Type 1} → statement M
-fits-spec = tie.close (tie.spec (λ c κs. search rules) (λ c. search rules) (λ c. search rules) returns returns-2)
+pub fits_spec : {M : Type 1} → statement M
+fits_spec = tie.close (tie.spec (λ c κs. search rules) (λ c. search rules) (λ c. search rules) returns returns-2)

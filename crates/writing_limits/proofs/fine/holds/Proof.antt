@@ -14,11 +14,11 @@ holds_is len start n h =
     (λ e. e ∙ sym (le-leb (start + n) len (omega (arith, leb-true n (len - start) e))))
     (λ e. e ∙ sym (lt-leb (start + n) len (omega (arith, leb-false n (len - start) e))))
 
-returns : tie.Need-returns
-returns c = sym (lt-leb (c.before.args.start + c.before.args.n) c.before.args.len (omega (arith, c.if1.true)))
+returns : tie.Need-returns-then-len-start
+returns c = sym (lt-leb (c.args.start + c.args.n) c.args.len (omega (arith, c.if-len-start.true)))
 
-returns-2 : tie.Need-returns-2
-returns-2 c = holds_is c.before.args.len c.before.args.start c.before.args.n c.if1.false
+returns-2 : tie.Need-returns
+returns-2 c = holds_is c.args.len c.args.start c.args.n c.if-len-start.false
 
-pub holds-spec : {M : Type 1} → statement M
-holds-spec = tie.close (tie.spec returns returns-2)
+pub holds_spec : {M : Type 1} → statement M
+holds_spec = tie.close (tie.spec returns returns-2)

@@ -6,8 +6,8 @@ use Rattle.writing_limits.proofs.fine.in_range.Tie as tie
 
 returns : tie.Need-returns
 returns c =
-    let a = c.before.field_at in
-    rw (back32 a.result a.type-inv, a.ensures) at c.between.ensures
+    let a = c.field_at in
+    rw (back32 a.result a.type_inv, a.ensures) at c.between.ensures
 
-pub in-range-spec : {M : Type 1} → statement M
-in-range-spec = tie.close (tie.spec (λ c κs. search rules) (λ c κs. search rules) returns)
+pub in_range_spec : {M : Type 1} → statement M
+in_range_spec = tie.close (tie.spec (λ c κs. search rules) (λ c κs. search rules) returns)

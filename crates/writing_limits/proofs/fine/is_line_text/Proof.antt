@@ -6,5 +6,5 @@ use Rattle.writing_limits.proofs.fine.is_line_text.Tie as tie
 returns : tie.Need-returns
 returns c = rw c.find.ensures.is
 
-pub is-line-text-spec : {M : Type 1} → statement M
-is-line-text-spec = tie.close (tie.spec (λ c κs. search rules) returns)
+pub is_line_text_spec : {M : Type 1} → statement M
+is_line_text_spec = tie.close (tie.spec (λ c κs. search rules) returns)

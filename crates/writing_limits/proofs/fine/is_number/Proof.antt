@@ -7,8 +7,8 @@ use Rattle.writing_limits.proofs.fine.is_number.Tie as tie
 
 returns : tie.Need-returns
 returns c =
-    let a = c.before.field_at in
-    rw (back32 a.result a.type-inv, a.ensures, to_z-of_z c.before.before.ranges.z) at c.equal.ensures
+    let a = c.field_at in
+    rw (back32 a.result a.type_inv, a.ensures, to_z-of_z c.ranges.z) at c.equal.ensures
 
-pub is-number-spec : {M : Type 1} → statement M
-is-number-spec = tie.close (tie.spec (λ c κs. search rules) (λ c κs. search rules) returns)
+pub is_number_spec : {M : Type 1} → statement M
+is_number_spec = tie.close (tie.spec (λ c κs. search rules) (λ c κs. search rules) returns)

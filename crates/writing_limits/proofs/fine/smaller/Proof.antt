@@ -7,9 +7,9 @@ use Rattle.writing_limits.proofs.fine.smaller.Tie as tie
 
 returns : tie.Need-returns
 returns c =
-    let a = c.before.before.field_at in
-    let b = c.before.field-at2 in
-    back32 c.min.result c.min.type-inv ∙ (rw (back32 a.result a.type-inv, a.ensures, back32 b.result b.type-inv, b.ensures) at c.min.ensures)
+    let a = c.field_at in
+    let b = c.field_at-2 in
+    back32 c.min.result c.min.type_inv ∙ (rw (back32 a.result a.type_inv, a.ensures, back32 b.result b.type_inv, b.ensures) at c.min.ensures)
 
-pub smaller-spec : {M : Type 1} → statement M
-smaller-spec = tie.close (tie.spec (λ c κs. search rules) (λ c κs. search rules) (λ c κs. search rules) returns)
+pub smaller_spec : {M : Type 1} → statement M
+smaller_spec = tie.close (tie.spec (λ c κs. search rules) (λ c κs. search rules) (λ c κs. search rules) returns)

@@ -8,28 +8,28 @@ use borrow.Author.Rules.{rules}
 use Rattle.writing_templates.proofs.fill.fill_len.Statement.{statement}
 use Rattle.writing_templates.proofs.fill.fill_len.Tie as tie
 
-abbrev invariant-loop : tie.invariant-loop
+abbrev invariant-loop : tie.invariant-loop-i
 invariant-loop t e len total₀ i₀ total i = Summed e len t total i
 
-abbrev decreases-loop : tie.decreases-loop
+abbrev decreases-loop : tie.decreases-loop-i
 decreases-loop t e len total₀ i₀ total i = length t - i
 
-add_total : tie.Need-overflow-add-total invariant-loop decreases-loop
+add_total : tie.Need-overflow_add-total invariant-loop decreases-loop
 add_total c =
-    let l = c.before.before.before in
-    let a = l.before.before in
-    record { fits = omega (arith, l.loop.invariant.small, l.loop.invariant.within, c.slot-len.ensures.small, a.requires.0, a.requires.1) }
+    let l = c in
+    let a = l in
+    record { fits = omega (arith, l.loop-i.invariant.small, l.loop-i.invariant.within, c.slot_len-total.ensures.small, a.requires.0, a.requires.1) }
 
-loop-again : tie.Need-loop-preserved invariant-loop decreases-loop
+loop-again : tie.Need-loop-i-preserved invariant-loop decreases-loop
 loop-again c =
-    let l = c.before.before.before in
-    summed_next c.before.before.loop-test.true l.before.before.requires.1 l.loop.invariant c.slot-len.ensures
+    let l = c in
+    summed_next c.loop-i-test.true l.requires.1 l.loop-i.invariant c.slot_len-total.ensures
 
 returns : tie.Need-returns invariant-loop decreases-loop
-returns c = summed_end c.loop-test.false c.before.before.before.requires.0 c.before.loop.invariant
+returns c = summed_end c.loop-i-test.false c.requires.0 c.loop-i.invariant
 
-pub fill-len-spec : {M : Type 1} → statement M
-fill-len-spec =
+pub fill_len_spec : {M : Type 1} → statement M
+fill_len_spec =
     tie.close
     (tie.spec
     invariant-loop

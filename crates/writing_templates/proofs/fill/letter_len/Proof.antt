@@ -3,11 +3,11 @@ use borrow.Author.Tests.{eq-eqb, ne_eqb}
 use Rattle.writing_templates.proofs.fill.letter_len.Statement.{statement}
 use Rattle.writing_templates.proofs.fill.letter_len.Tie as tie
 
-returns : tie.Need-returns
-returns c = simp (eq-eqb c.before.args.b 0 c.if1.true)
+returns : tie.Need-returns-then-b-eq0
+returns c = simp (eq-eqb c.args.b 0 c.if-b-eq0.true)
 
-returns-2 : tie.Need-returns-2
-returns-2 c = simp (ne_eqb c.before.args.b 0 c.if1.false)
+returns-2 : tie.Need-returns-else-b-eq0
+returns-2 c = simp (ne_eqb c.args.b 0 c.if-b-eq0.false)
 
-pub letter-len-spec : {M : Type 1} → statement M
-letter-len-spec = tie.close (tie.spec returns returns-2)
+pub letter_len_spec : {M : Type 1} → statement M
+letter_len_spec = tie.close (tie.spec returns returns-2)

@@ -10,34 +10,34 @@ use borrow.Author.Rules.{rules}
 use Rattle.writing_templates.proofs.fill.lines_of.Statement.{statement}
 use Rattle.writing_templates.proofs.fill.lines_of.Tie as tie
 
-returns : tie.Need-returns
-returns c = let a = c.before in lines_none a.args.len a.args.row (rw (to_z-of_z a.ranges.row) at c.if1.true)
+returns : tie.Need-returns-then-row-lt1
+returns c = let a = c in lines_none a.args.len a.args.row (rw (to_z-of_z a.ranges.row) at c.if-row-lt1.true)
 
-div-n : tie.Need-nonzero-div-n
+div-n : tie.Need-nonzero_div-n
 div-n c =
-    let a = c.before.before in
+    let a = c in
     let e = to_z-of_z a.ranges.row in
-    let k = row_bits a.args.row (rw e at c.before.if1.false) in
+    let k = row_bits a.args.row (rw e at c.if-row-lt1.false) in
     omega (arith, rw e at c.bits.ensures, k.0, k.1)
 
-returns-2 : tie.Need-returns-2
+returns-2 : tie.Need-returns-then-n-gt2147483647
 returns-2 c =
-    let a = c.before.before.before in
+    let a = c in
     let e = to_z-of_z a.ranges.row in
-    let l = rw e at c.before.before.if1.false in
-    let b = (rw e at c.before.bits.ensures) ∙ (row_bits a.args.row l).0 in
-    lines_many a.args.len a.args.row l (rw b at c.if2.true)
+    let l = rw e at c.if-row-lt1.false in
+    let b = (rw e at c.bits.ensures) ∙ (row_bits a.args.row l).0 in
+    lines_many a.args.len a.args.row l (rw b at c.if-n-gt2147483647.true)
 
-returns-3 : tie.Need-returns-3
+returns-3 : tie.Need-returns
 returns-3 c =
-    let a = c.before.before.before in
+    let a = c in
     let e = to_z-of_z a.ranges.row in
-    let l = rw e at c.before.before.if1.false in
-    let b = (rw e at c.before.bits.ensures) ∙ (row_bits a.args.row l).0 in
-    let m : a.args.len / nat_abs a.args.row ≤ 2147483647 = rw b at c.if2.false in
+    let l = rw e at c.if-row-lt1.false in
+    let b = (rw e at c.bits.ensures) ∙ (row_bits a.args.row l).0 in
+    let m : a.args.len / nat_abs a.args.row ≤ 2147483647 = rw b at c.if-n-gt2147483647.false in
     let k : a.args.len / nat_abs a.args.row < 2147483648 = omega arith in
     rw b (to_z_pos w32 k ∙ lines_some a.args.len a.args.row l m)
 
-pub lines-of-spec : {M : Type 1} → statement M
-lines-of-spec =
+pub lines_of_spec : {M : Type 1} → statement M
+lines_of_spec =
     tie.close (tie.spec returns (λ c κs. search rules) (λ c. search rules) div-n returns-2 (λ c. search rules) returns-3)

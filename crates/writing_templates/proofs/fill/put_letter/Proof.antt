@@ -8,20 +8,20 @@ use borrow.Author.Rules.{rules}
 use Rattle.writing_templates.proofs.fill.put_letter.Statement.{statement}
 use Rattle.writing_templates.proofs.fill.put_letter.Tie as tie
 
-returns : tie.Need-returns
+returns : tie.Need-returns-then-b-eq0
 returns c =
-    let a = c.before in
-    put_none a.args.out.now a.args.at (simp (eq-eqb a.args.b 0 c.if1.true))
+    let a = c in
+    put_none a.args.out.now a.args.at (simp (eq-eqb a.args.b 0 c.if-b-eq0.true))
 
-slice-write-out : tie.Need-slice-write-out
+slice-write-out : tie.Need-bounds-out-at
 slice-write-out c =
-    let a = c.before in
-    omega (arith, a.requires, ap length (some_letter a.args.b c.if1.false))
+    let a = c in
+    omega (arith, a.requires, ap length (some_letter a.args.b c.if-b-eq0.false))
 
-returns-2 : tie.Need-returns-2
+returns-2 : tie.Need-returns
 returns-2 c =
-    let a = c.before in
-    put_byte a.args.out.now a.args.at a.args.b (some_letter a.args.b c.if1.false)
+    let a = c in
+    put_byte a.args.out.now a.args.at a.args.b (some_letter a.args.b c.if-b-eq0.false)
 
-pub put-letter-spec : {M : Type 1} → statement M
-put-letter-spec = tie.close (tie.spec returns slice-write-out (λ c. search rules) (λ c. search rules) returns-2)
+pub put_letter_spec : {M : Type 1} → statement M
+put_letter_spec = tie.close (tie.spec returns slice-write-out (λ c. search rules) (λ c. search rules) returns-2)

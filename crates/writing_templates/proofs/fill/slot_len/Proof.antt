@@ -11,29 +11,29 @@ use borrow.Author.Rules.{rules}
 use Rattle.writing_templates.proofs.fill.slot_len.Statement.{statement}
 use Rattle.writing_templates.proofs.fill.slot_len.Tie as tie
 
-returns : tie.Need-returns
-returns c = let a = c.before.before in len_byte a.args.e a.args.len a.args.b c.letter-len.result c.before.if1.true c.letter-len.ensures
+returns : tie.Need-returns-then-b-lt128
+returns c = let a = c in len_byte a.args.e a.args.len a.args.b c.letter_len.result c.if-b-lt128.true c.letter_len.ensures
 
-returns-2 : tie.Need-returns-2
+returns-2 : tie.Need-returns-then-b-lt148
 returns-2 c =
-    let a = c.before.before.before.before in
-    let z = c.before.number_at.result in
-    let e = back32 z c.before.number_at.type-inv ∙ c.before.number_at.ensures in
-    len_number a.args.e a.args.len a.args.b c.decimal-len.result c.before.before.before.if1.false c.before.before.if2.true
-    (subst (λ (z : ℤ). DecimalLen z c.decimal-len.result) e c.decimal-len.ensures)
+    let a = c in
+    let z = c.number_at.result in
+    let e = back32 z c.number_at.type_inv ∙ c.number_at.ensures in
+    len_number a.args.e a.args.len a.args.b c.decimal_len.result c.if-b-lt128.false c.if-b-lt148.true
+    (subst (λ (z : ℤ). DecimalLen z c.decimal_len.result) e c.decimal_len.ensures)
 
-returns-3 : tie.Need-returns-3
+returns-3 : tie.Need-returns-then-b-lt160
 returns-3 c =
-    let letter = c.before.before in
-    let a = letter.before.before.before.args in
-    len_letter a.e a.len a.b c.letter-len2.result letter.before.if2.false letter.if3.true
-    (c.letter-len2.ensures ∙ ap (λ (b : ℕ). length (letter_of b)) c.before.letter_at.ensures)
+    let letter = c in
+    let a = letter.args in
+    len_letter a.e a.len a.b c.letter_len-then-b-lt160.result letter.if-b-lt148.false letter.if-b-lt160.true
+    (c.letter_len-then-b-lt160.ensures ∙ ap (λ (b : ℕ). length (letter_of b)) c.letter_at.ensures)
 
-returns-4 : tie.Need-returns-4
-returns-4 c = let a = c.before.before.before in len_data a.args.e a.args.len a.args.b c.if3.false
+returns-4 : tie.Need-returns
+returns-4 c = let a = c in len_data a.args.e a.args.len a.args.b c.if-b-lt160.false
 
-pub slot-len-spec : {M : Type 1} → statement M
-slot-len-spec =
+pub slot_len_spec : {M : Type 1} → statement M
+slot_len_spec =
     tie.close
     (tie.spec
     (λ c κs. search rules)

@@ -9,9 +9,9 @@ use Rattle.writing_templates.proofs.template.command_len.Tie as tie
 
 returns : tie.Need-returns
 returns c =
-    let a = c.before.before.before.args in
-    subst (λ (t : List ℕ). FillLen a.e a.len t c.fill-len.result) c.before.before.template.ensures c.fill-len.ensures
+    let a = c.args in
+    subst (λ (t : List ℕ). FillLen a.e a.len t c.fill_len.result) c.template-t.ensures c.fill_len.ensures
 
-pub command-len-spec : {M : Type 1} → statement M
-command-len-spec =
+pub command_len_spec : {M : Type 1} → statement M
+command_len_spec =
     tie.close (tie.spec (λ c κs. search rules) (λ c. search rules) (λ c κs. search rules) returns)

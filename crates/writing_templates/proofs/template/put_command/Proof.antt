@@ -9,20 +9,20 @@ use Rattle.writing_templates.specs.Fill.{fill}
 use Rattle.writing_templates.proofs.template.put_command.Statement.{statement}
 use Rattle.writing_templates.proofs.template.put_command.Tie as tie
 
-put-fill-requires : tie.Need-put-fill-requires
+put-fill-requires : tie.Need-put_fill-requires
 put-fill-requires c κs =
-    let got = c.before.before in
-    let s = got.before.before.before in
-    subst (λ (t : List ℕ). s.args.at + length (fill s.args.e s.args.bytes.now t) ≤ length s.args.out.now) (sym got.template.ensures) s.requires
+    let got = c in
+    let s = got in
+    subst (λ (t : List ℕ). s.args.at + length (fill s.args.e s.args.bytes.now t) ≤ length s.args.out.now) (sym got.template-t.ensures) s.requires
 
 returns : tie.Need-returns
 returns c =
-    let put = c.before.before in
-    let got = put.before.before.before in
-    let a = got.before.before.before.args in
-    put_as (ap (fill a.e a.bytes.now) (sym got.template.ensures)) put.put_fill.ensures
+    let put = c in
+    let got = put in
+    let a = got.args in
+    put_as (ap (fill a.e a.bytes.now) (sym got.template-t.ensures)) put.put_fill.ensures
 
-pub put-command-spec : {M : Type 1} → statement M
-put-command-spec =
+pub put_command_spec : {M : Type 1} → statement M
+put_command_spec =
     tie.close
     (tie.spec (λ c κs. search rules) (λ c. search rules) put-fill-requires (λ c. search rules) returns)
