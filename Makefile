@@ -50,7 +50,7 @@ target/lib/$(SHARED): $(ARCHIVE) src/laddertick.map
 	  -Wl,--whole-archive $(ARCHIVE) -Wl,--no-whole-archive -o $@
 
 # Missing, or older than what it is made from. Where times alone have changed, ./laddertick build puts them right and builds nothing.
-$(PROVED): $(shell find crates crates.txt -type f)
+$(PROVED): $(shell find crates crates.txt -name out -prune -o -type f -print)
 	@echo "$@ is missing or out of date: make it by ./laddertick build" >&2; exit 1
 
 # A word @NAME@ of a file is what this Makefile has under the name; of ./laddertick and of the Python package the parts for the repository are left out.

@@ -6,7 +6,7 @@
  * needs less than LADDERTICK_STACK bytes of stack.
  *
  * All functions are proved but laddertick_version and laddertick_meaning. These two are a small file of C, a member of its own in the static library, which is linked only where
- * one of them is called; what `rt staticlib laddertick_c` writes (target/staticlib/libladdertick_c.a) has all others.
+ * one of them is called; what `./laddertick build` makes of the proved crates (target/staticlib/libladdertick_c.a) has all others.
  *
  * What you lend stays yours. A function reads `input` and `elements` and writes `out`, `entries` and `list` only between their ends and only until it returns; it keeps no pointer. What
  * is lent to one call must not overlap, and nobody may write the input during a call or while a walk over it lasts. Where a length is 0 any pointer will do, NULL too.

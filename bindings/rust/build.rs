@@ -5,7 +5,7 @@ use std::env;
 use std::path::{Path, PathBuf};
 use std::process::Command;
 
-/// The libraries that a folder may have, the first one first: of `make install` and of `rt staticlib`, and the shared object.
+/// The libraries that a folder may have, the first one first: of `make install` and of `tools/build/library`, and the shared object.
 const LIBRARIES: [(&str, &str); 3] =
     [("libladdertick.a", "static=laddertick"), ("libladdertick_c.a", "static=laddertick_c"), ("libladdertick.so", "dylib=laddertick")];
 

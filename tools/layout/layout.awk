@@ -20,6 +20,7 @@ BEGIN {
 
 # ---- the declarations
 /^#\[repr\(C\)\]$/ { marked = 1; next }
+marked && /^#\[derive\(/ { next }
 # a number in a type of its own, as which only Rust has it
 marked && /^pub struct [A-Za-z0-9]+\(pub i32\);$/ { t = $3; sub(/\(.*/, "", t); size[t] = size["i32"]; type[t] = to == "rust" ? t : type["i32"]; marked = 0; next }
 marked && /^pub struct [A-Za-z0-9]+ \{$/ { struct = $3; structs[struct] = ++declared; order[declared] = struct; marked = 0; next }

@@ -1,12 +1,10 @@
-//! A working copy of the repository below target/mutate, and what `rt check` says of an edit there.
+//! A working copy of the repository, and what `rt check` says of an edit there.
 
 use crate::source;
 use std::collections::BTreeMap;
-use std::ffi::OsString;
-use std::fs;
+use std::fs::{self, File};
 use std::path::{Path, PathBuf};
-use std::process::Command;
-use std::time::Duration;
+use std::process::{Command, Stdio};
 
 /// Texts of files that an edit makes, by their paths from the repository's root on.
 pub type Texts<'a> = BTreeMap<&'a str, String>;
@@ -35,130 +33,91 @@ pub const VERDICTS: [(Verdict, &str); 6] = [
     (Verdict::Broken, "rt failed"),
 ];
 
-/// What `timeout` exits with where it ended the check.
-pub const OUT_OF_TIME: i32 = 124;
+/// Seconds that the check of an edit may take, over what the crate's own has kept.
+pub const OF_AN_EDIT: u64 = 1800;
 
-/// A folder with the crates and what `rt` keeps of their proofs.
+/// Seconds of a check that may have much to prove, in the crate and below it.
+pub const OF_ALL: u64 = 14400;
+
+/// What `timeout` exits with where it ended the check.
+const OUT_OF_TIME: i32 = 124;
+
+/// A folder with the crates.
 pub struct WorkingCopy {
     pub root: PathBuf,
-    /// The folder below a crate's incremental folder in which `rt dev` has the modules, where that is known.
-    pub modules: Option<OsString>,
 }
 
 impl WorkingCopy {
-    /// Copies the repository, or another copy. What stood there goes. Of proved libraries links serve: the toolchain writes a library as new files, and never into
-    /// the old ones.
+    /// Copies crates.txt and the crates as they are written; what stood there goes. What `rt` keeps of them is left out, and so are their must-fail edits: a check begins
+    /// with what another folder of this machine has kept of the same text.
     pub fn make(from: &Path, to: &Path) -> WorkingCopy {
         let _ = fs::remove_dir_all(to);
-        fs::create_dir_all(to.join("target/kept")).expect("a folder below target/mutate");
-        for (part, how) in [("crates", "-a"), ("crates.txt", "-a"), ("target/rlib", "-al"), ("target/stamp", "-a"), ("target/log", "-a")] {
-            let status = Command::new("cp").arg(how).arg(from.join(part)).arg(to.join(part)).status();
-            assert!(status.is_ok_and(|s| s.success()), "{part} cannot be copied to {}", to.display());
+        fs::create_dir_all(to).expect("a folder for a copy");
+        let mut command = Command::new("cp");
+        command.args(["-a", "--parents", "crates.txt"]).current_dir(from);
+        for name in source::listed_crates(from) {
+            let parts = source::names_in(&from.join("crates").join(&name)).into_iter().filter(|part| part != "out" && part != "must-fail");
+            command.args(parts.map(|part| format!("crates/{name}/{part}")));
         }
-        WorkingCopy { root: to.into(), modules: None }
+        let status = command.arg(to).status();
+        assert!(status.is_ok_and(|s| s.success()), "the crates cannot be copied to {}", to.display());
+        WorkingCopy { root: to.into() }
     }
 
-    /// The crates alone, with nothing of them proved.
-    pub fn make_unproved(from: &Path, to: &Path) -> WorkingCopy {
-        let _ = fs::remove_dir_all(to);
-        for folder in ["kept", "rlib", "stamp", "log"] {
-            fs::create_dir_all(to.join("target").join(folder)).expect("a folder below target/mutate");
-        }
-        for part in ["crates", "crates.txt"] {
-            let status = Command::new("cp").arg("-a").arg(from.join(part)).arg(to.join(part)).status();
-            assert!(status.is_ok_and(|s| s.success()), "{part} cannot be copied to {}", to.display());
-        }
-        WorkingCopy { root: to.into(), modules: None }
-    }
-
-    /// Links in what is proved of a crate and of all that it is built on. While `rt` proves them beside, it waits until the crate's stamp stands: that comes last, and after
-    /// the stamps of what the crate is built on.
-    pub fn take_proved(&self, from: &Path, crate_name: &str) {
-        let stamp = |name: &str| Path::new("target/stamp").join(name);
-        while !from.join(stamp(crate_name)).exists() {
-            std::thread::sleep(Duration::from_secs(1));
-        }
-        for name in source::built_on(&self.root, crate_name).into_iter().filter(|name| !self.root.join(stamp(name)).exists()) {
-            let library = format!("target/rlib/{name}.rlib");
-            let linked = Command::new("cp").arg("-al").arg(from.join(&library)).arg(self.root.join(&library)).status();
-            assert!(linked.is_ok_and(|s| s.success()), "the library of {name} cannot be linked");
-            fs::copy(from.join(stamp(&name)), self.root.join(stamp(&name))).expect("a stamp");
-        }
-    }
-
-    pub fn is_program(&self, crate_name: &str) -> bool {
-        self.root.join("crates").join(crate_name).join("src/main.rt").exists()
-    }
-
-    /// The first digits of a proved crate's stamp: it changes with the crate's files and with what the crate depends on.
-    pub fn stamp(&self, crate_name: &str) -> String {
-        let stamp = fs::read_to_string(self.root.join("target/stamp").join(crate_name)).expect("a stamp");
-        stamp.chars().take(12).collect()
-    }
-
-    /// `rt check` of crates as they stand: what it prints, and its exit status, which is 0 where all are proved.
-    pub fn check(&self, crates: &[String], seconds: u64) -> (String, Option<i32>) {
-        let mut command = Command::new("timeout");
-        command.arg(seconds.to_string()).args(["rt", "check"]).args(crates).current_dir(&self.root).env("RT_JOBS", "1");
-        let output = command.output().expect("the commands timeout and rt");
-        let said = [output.stdout, output.stderr].concat();
-        (String::from_utf8_lossy(&said).into_owned(), output.status.code())
-    }
-
-    /// `rt check` of a crate with other texts in files of it: the verdict, and what `rt` said. Then all is as it was, the files, the
-    /// stamp and the proved library.
-    pub fn verdict(&self, crate_name: &str, texts: &Texts, seconds: u64) -> (Verdict, String) {
-        let stamp = self.root.join("target/stamp").join(crate_name);
-        let library = self.root.join("target/rlib").join(format!("{crate_name}.rlib"));
-        let kept = self.root.join("target/kept").join(crate_name);
-        let old_stamp = fs::read(&stamp).expect("the stamp");
-        let is_library = fs::rename(&library, &kept).is_ok();
-        let answer = self.with(texts, || self.verdict_as_it_stands(crate_name, seconds));
-        let _ = fs::remove_dir_all(&library);
-        if is_library {
-            fs::rename(&kept, &library).expect("the proved library");
-        }
-        fs::write(&stamp, old_stamp).expect("the stamp");
-        answer
-    }
-
-    /// What is answered with other texts in some files, which are then as they were.
-    pub fn with<T>(&self, texts: &Texts, answer: impl FnOnce() -> T) -> T {
+    /// `rt check` of a crate with other texts in files of it, and the run of a program that is proved with them: the verdict, and what `rt` said. Then the files are as they were.
+    pub fn verdict(&self, crate_name: &str, texts: &Texts) -> (Verdict, String) {
         let old: Vec<Vec<u8>> = texts.keys().map(|path| fs::read(self.root.join(path)).expect("a file of the copy")).collect();
-        texts.iter().for_each(|(path, new)| self.write(path, new));
-        let answer = answer();
+        self.write(texts);
+        let (mut verdict, mut said) = self.check(crate_name, OF_AN_EDIT);
+        if verdict == Verdict::Survived && self.folder(crate_name).join("src/main.rt").exists() {
+            let run;
+            (verdict, run) = self.run(crate_name);
+            said += &run;
+        }
         texts.keys().zip(old).for_each(|(path, text)| fs::write(self.root.join(path), text).expect("the file of the edit"));
-        answer
+        (verdict, said)
     }
 
-    /// `rt check` of a crate as it stands.
-    pub fn verdict_as_it_stands(&self, crate_name: &str, seconds: u64) -> (Verdict, String) {
-        let (said, status) = self.check(&[crate_name.into()], seconds);
-        (read(crate_name, &said, status), said)
+    /// `rt check` of a crate as it stands, which first builds what it needs of those below: the verdict, and what `rt` said.
+    pub fn check(&self, crate_name: &str, seconds: u64) -> (Verdict, String) {
+        let output = self.rt("check", crate_name, seconds).output().expect("the commands timeout and rt");
+        let said = String::from_utf8_lossy(&[output.stderr, output.stdout].concat()).into_owned();
+        (read(&said, output.status.code()), said)
     }
 
-    /// Another text for a file, whose path is from the copy's root on. It stays.
-    pub fn write(&self, path: &str, new: &str) {
-        fs::write(self.root.join(path), new).expect("the file of the edit");
+    /// Runs a program on its file `stdin`: whether it writes what its file `stdout` has.
+    fn run(&self, crate_name: &str) -> (Verdict, String) {
+        let file = |name: &str| self.folder(crate_name).join(name);
+        let stdin = File::open(file("stdin")).map_or(Stdio::null(), Stdio::from);
+        let output = self.rt("run", crate_name, OF_AN_EDIT).stdin(stdin).output().expect("the commands timeout and rt");
+        let wrote = output.status.success() && output.stdout == fs::read(file("stdout")).unwrap_or_default();
+        let verdict = if wrote { Verdict::Survived } else { Verdict::RunDiffers };
+        (verdict, String::from_utf8_lossy(&[output.stderr, output.stdout].concat()).into_owned())
+    }
+
+    fn rt(&self, word: &str, crate_name: &str, seconds: u64) -> Command {
+        let mut command = Command::new("timeout");
+        command.arg(seconds.to_string()).args(["rt", word, "--jobs", "1"]).current_dir(self.folder(crate_name));
+        command
+    }
+
+    fn folder(&self, crate_name: &str) -> PathBuf {
+        self.root.join("crates").join(crate_name)
+    }
+
+    /// Other texts for files. They stay.
+    pub fn write(&self, texts: &Texts) {
+        texts.iter().for_each(|(path, text)| fs::write(self.root.join(path), text).expect("the file of the edit"));
     }
 }
 
-/// `rt` says in words which of its exit statuses the prover had. No line `logic=` means that the code did not get as far.
-fn read(crate_name: &str, said: &str, status: Option<i32>) -> Verdict {
-    let line = |start: &str| said.lines().any(|line| line.starts_with(start));
-    if status == Some(0) {
-        Verdict::Survived
-    } else if line(&format!("rt: {crate_name} proved, and its run FAILED")) {
-        Verdict::RunDiffers
-    } else if line(&format!("rt: {crate_name} NOT PROVED (exit 1,")) {
-        if line("logic=not-proved") {
-            Verdict::Refused
-        } else {
-            Verdict::NoProgram
-        }
-    } else if line(&format!("rt: {crate_name} NOT PROVED (exit 3,")) || status == Some(OUT_OF_TIME) {
-        Verdict::Unclear
-    } else {
-        Verdict::Broken
+/// With no line `logic=` the code did not reach the prover.
+fn read(said: &str, status: Option<i32>) -> Verdict {
+    match status {
+        Some(0) => Verdict::Survived,
+        Some(1) if said.lines().any(|line| line.starts_with("logic=not-proved")) => Verdict::Refused,
+        Some(1) => Verdict::NoProgram,
+        Some(3) | Some(OUT_OF_TIME) => Verdict::Unclear,
+        _ => Verdict::Broken,
     }
 }

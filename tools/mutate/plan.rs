@@ -1,4 +1,4 @@
-//! Which edits are tried, and in what order. It hangs on the proved crates, the options and the seed, and on nothing else.
+//! Which edits are tried, and in what order. It hangs on the crates, the options and the seed, and on nothing else.
 
 use crate::body::Body;
 use crate::edits::{edits, Edit, KINDS};
@@ -20,14 +20,14 @@ pub struct Plan<'a> {
     pub order: Vec<usize>,
 }
 
-/// Every function gets an edit before any gets a second. Where that is too much, crates share by the square root of their seconds:
-/// one whose check takes four times as long has half as many of its functions edited. With no number, every function gets one.
-pub fn plan<'a>(sources: &'a Sources, crates: &[String], seconds: &BTreeMap<String, u64>, most: Option<usize>, seed: u64) -> Plan<'a> {
+/// Every function gets an edit before any gets a second. Where that is too much, crates share by the square root of their lines:
+/// one with four times as many has half as many of its functions edited. With no number, every function gets one.
+pub fn plan<'a>(sources: &'a Sources, crates: &[String], lines: &BTreeMap<String, u64>, most: Option<usize>, seed: u64) -> Plan<'a> {
     let mut subjects = subjects(sources, crates, seed);
     let mut used = [0; KINDS.len()];
     let mut order = Vec::new();
     while most.is_none_or(|most| order.len() < most) {
-        let Some(next) = next_subject(&subjects, seconds) else { break };
+        let Some(next) = next_subject(&subjects, lines) else { break };
         if most.is_none() && subjects[next].wanted > 0 {
             break;
         }
@@ -57,13 +57,13 @@ fn subjects<'a>(sources: &'a Sources, crates: &[String], seed: u64) -> Vec<Subje
 }
 
 /// The function that is to get the next edit.
-fn next_subject(subjects: &[Subject], seconds: &BTreeMap<String, u64>) -> Option<usize> {
+fn next_subject(subjects: &[Subject], lines: &BTreeMap<String, u64>) -> Option<usize> {
     let round = subjects.iter().filter(|s| !s.left.is_empty()).map(|s| s.wanted).min()?;
     let open = |s: &Subject| s.wanted == round && !s.left.is_empty();
     let share = |name: &str| {
         let of_crate = || subjects.iter().filter(|s| s.crate_name == name);
         let had = of_crate().filter(|s| !open(s)).count();
-        had as f64 / of_crate().count() as f64 * (seconds[name] as f64).sqrt()
+        had as f64 / of_crate().count() as f64 * (lines[name] as f64).sqrt()
     };
     let mut crates: Vec<&str> = subjects.iter().filter(|s| open(s)).map(|s| s.crate_name).collect();
     crates.sort();

@@ -15,7 +15,7 @@ use std::sync::Mutex;
 /// Results by the words that name their edit. What `rt` said of each lies in said/.
 pub struct Report {
     folder: PathBuf,
-    /// By crate: its stamp, which changes with its files and with what it depends on.
+    /// By crate: its stamp, which changes with its files and with those of what it is built on.
     stamps: BTreeMap<String, String>,
     state: Mutex<State>,
 }
@@ -25,18 +25,17 @@ struct State {
     results: BTreeMap<String, Verdict>,
     /// Texts in said/.
     said: usize,
-    /// How often a crate was proved again over the folder of its edits, and how often not.
+    /// How often an unedited crate was proved, and how often not.
     controls: [usize; 2],
     /// Seconds of all checks.
     seconds: f64,
 }
 
-const FILLED: &str = "filled";
-const CONTROL: &str = "control";
+/// Controls that held, and those that failed.
+const CONTROLS: [&str; 2] = ["control", "control FAILED"];
 
 impl Report {
-    /// An empty report, or what counts of the one that an interrupted run left: not the edits at which `rt` itself failed, nor those of a crate that has changed
-    /// since, nor those after the last control of a crate's incremental folder.
+    /// An empty report, or what counts of the one that an interrupted run left: not the edits at which `rt` itself failed, nor those of a crate that has changed since.
     pub fn open(folder: PathBuf, resume: bool, stamps: BTreeMap<String, String>) -> Report {
         let path = folder.join("report.txt");
         let said = folder.join("said");
@@ -47,7 +46,7 @@ impl Report {
         fs::create_dir_all(&said).expect("the folder said/");
         let text = fs::read_to_string(&path).unwrap_or_default();
         let mut state = State { said: fs::read_dir(&said).into_iter().flatten().count(), ..State::default() };
-        let kept: Vec<&str> = lines_that_count(&text, &stamps);
+        let kept: Vec<&str> = text.lines().filter(|line| counts(line, &stamps)).collect();
         kept.iter().for_each(|line| state.take(line));
         fs::write(&path, kept.iter().map(|line| format!("{line}\n")).collect::<String>()).expect("the report");
         Report { folder, stamps, state: Mutex::new(state) }
@@ -57,30 +56,29 @@ impl Report {
         self.state.lock().unwrap().results.get(name).copied()
     }
 
-    /// The result of an edit, and how it was had: checks with their seconds.
-    pub fn add(&self, name: &str, verdict: Verdict, how: &str, said: &str) {
-        self.write(word(verdict), how, name, said);
+    /// The result of an edit, the seconds of its check, and what `rt` said.
+    pub fn add(&self, name: &str, verdict: Verdict, seconds: f64, said: &str) {
+        self.write(word(verdict), seconds, name, said);
     }
 
-    pub fn filled(&self, crate_name: &str, proved: bool, seconds: f64) {
-        let words = if proved { "proved over its incremental folder" } else { "NOT PROVED over its incremental folder" };
-        self.write(FILLED, &format!("rt dev {seconds:.1} s"), &format!("{crate_name}: {words}"), "");
-    }
-
-    pub fn control(&self, crate_name: &str, proved: bool, seconds: f64, said: &str) {
-        let words = if proved { "proved again over the folder of its edits" } else { "NOT PROVED over the folder of its edits" };
+    pub fn control(&self, crate_name: &str, holds: bool, seconds: f64, said: &str) {
         let own = format!("crate {crate_name}: ");
         let modules = said.lines().find_map(|line| line.strip_prefix(&own)).unwrap_or("");
-        self.write(CONTROL, &format!("rt dev {seconds:.1} s"), &format!("{crate_name}: {words} ({modules})"), said);
+        self.write(CONTROLS[!holds as usize], seconds, &format!("{crate_name}: {modules}"), said);
     }
 
-    fn write(&self, word: &str, how: &str, name: &str, said: &str) {
+    /// Whether every crate was proved without its edits.
+    pub fn holds(&self) -> bool {
+        self.state.lock().unwrap().controls[1] == 0
+    }
+
+    fn write(&self, word: &str, seconds: f64, name: &str, said: &str) {
         let mut state = self.state.lock().unwrap();
         state.said += 1;
         let log = format!("said/{}.txt", state.said);
         fs::write(self.folder.join(&log), said).expect("what rt said");
         let stamp = self.stamps.get(crate_of(name)).map_or("", |stamp| stamp);
-        let line = format!("{word}\t{how}, {log}, {stamp}\t{name}");
+        let line = format!("{word}\t{seconds:.1} s, {log}, {stamp}\t{name}");
         let mut file = fs::OpenOptions::new().append(true).open(self.folder.join("report.txt")).expect("the report");
         writeln!(file, "{line}").expect("the report");
         state.take(&line);
@@ -90,10 +88,9 @@ impl Report {
 impl State {
     fn take(&mut self, line: &str) {
         let Some((word, how, name)) = parts(line) else { return };
-        let seconds = how.split(", ").filter_map(|part| part.strip_suffix(" s")?.rsplit_once(' ')?.1.parse::<f64>().ok());
-        self.seconds += seconds.sum::<f64>();
-        if word == CONTROL {
-            self.controls[name.contains("NOT PROVED") as usize] += 1;
+        self.seconds += how.split_once(" s, ").and_then(|(seconds, _)| seconds.parse::<f64>().ok()).unwrap_or(0.0);
+        if let Some(which) = CONTROLS.iter().position(|w| *w == word) {
+            self.controls[which] += 1;
         }
         if let Some((verdict, _)) = VERDICTS.iter().find(|(_, w)| *w == word) {
             self.results.insert(name.into(), *verdict);
@@ -113,29 +110,10 @@ fn crate_of(name: &str) -> &str {
     name.split(['/', ':']).next().unwrap_or(name)
 }
 
-fn lines_that_count<'a>(text: &'a str, stamps: &BTreeMap<String, String>) -> Vec<&'a str> {
-    let mut kept: Vec<(usize, &str)> = vec![];
-    let mut open: Vec<(usize, &str)> = vec![];
-    for (number, line) in text.lines().enumerate() {
-        let Some((word, how, name)) = parts(line) else { continue };
-        let own = |(_, other): &(usize, &str)| parts(other).is_some_and(|(_, _, other)| crate_of(other) == crate_of(name));
-        if stamps.get(crate_of(name)).is_none_or(|stamp| !how.ends_with(stamp.as_str())) || word == self::word(Verdict::Broken) {
-            continue;
-        }
-        if name.contains("NOT PROVED over the folder") {
-            open.retain(|other| !own(other));
-        } else if word == CONTROL {
-            kept.extend(open.iter().filter(|other| own(other)));
-            open.retain(|other| !own(other));
-        }
-        if word == CONTROL || word == FILLED || how.contains("rt check") {
-            kept.push((number, line));
-        } else {
-            open.push((number, line));
-        }
-    }
-    kept.sort();
-    kept.into_iter().map(|(_, line)| line).collect()
+fn counts(line: &str, stamps: &BTreeMap<String, String>) -> bool {
+    let Some((word, how, name)) = parts(line) else { return false };
+    let unchanged = stamps.get(crate_of(name)).is_some_and(|stamp| how.ends_with(stamp.as_str()));
+    unchanged && ![self::word(Verdict::Broken), CONTROLS[1]].contains(&word)
 }
 
 pub fn word(verdict: Verdict) -> &'static str {
@@ -182,7 +160,7 @@ pub fn summary(command: &str, crates: &[String], subjects: &[Subject], outcomes:
         text += &format!("; at {} `rt` failed, and `--resume` tries them again", count(Verdict::Broken));
     }
     let [held, fell] = state.controls;
-    text += &format!(".\n\nControl: unedited, a crate was proved over its incremental folder before its edits, and must be again after every twentieth and after the last. Controls that held: {held}; that failed: {fell}.\n");
+    text += &format!(".\n\nControl: unedited, a crate must be proved before its edits, after every twentieth and after the last. Controls that held: {held}; that failed: {fell}.\n");
     let by_hand = |v: &Verdict| ![Verdict::Refused, Verdict::NoProgram].contains(v);
     if outcomes.iter().any(|(_, _, v)| by_hand(v)) {
         text += "\n```\n";

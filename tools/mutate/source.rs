@@ -3,6 +3,7 @@
 use crate::tokens::{tokens, Kind, Token};
 use std::collections::BTreeMap;
 use std::fs;
+use std::hash::{DefaultHasher, Hash, Hasher};
 use std::path::{Path, PathBuf};
 
 /// A file of a crate's src/. Its text lives as long as the program.
@@ -72,7 +73,7 @@ impl Sources {
     pub fn read(root: &Path, crates: &[String]) -> Sources {
         let mut sources = Sources { files: vec![], functions: vec![], structs: BTreeMap::new(), enums: BTreeMap::new() };
         for name in crates {
-            for path in rt_files(&root.join("crates").join(name).join("src")) {
+            for path in files_below(&root.join("crates").join(name).join("src")) {
                 sources.add(root, name, &path);
             }
         }
@@ -124,7 +125,8 @@ pub fn listed_crates(root: &Path) -> Vec<String> {
 pub fn listed_dependencies(root: &Path) -> Vec<(String, Vec<String>)> {
     let text = fs::read_to_string(root.join("crates.txt")).expect("crates.txt");
     let lines = text.lines().filter_map(|line| line.split('#').next()?.split_once(':'));
-    lines.map(|(name, needs)| (name.trim().to_string(), needs.split_whitespace().map(String::from).collect())).collect()
+    let words = |text: &str| text.split_whitespace().map(String::from).collect::<Vec<_>>();
+    lines.map(|(name, needs)| (words(name)[0].clone(), words(needs))).collect()
 }
 
 /// A crate and all of the repository that it is built on, lowest first.
@@ -141,18 +143,42 @@ pub fn built_on(root: &Path, crate_name: &str) -> Vec<String> {
     found
 }
 
-fn rt_files(folder: &Path) -> Vec<PathBuf> {
-    let mut found = Vec::new();
-    for entry in fs::read_dir(folder).into_iter().flatten().flatten() {
-        let path = entry.path();
-        if path.is_dir() {
-            found.extend(rt_files(&path));
-        } else if path.extension().is_some_and(|e| e == "rt") {
-            found.push(path);
-        }
-    }
-    found.sort();
-    found
+/// The names of what a folder has; none where it is no folder.
+pub fn names_in(folder: &Path) -> Vec<String> {
+    let mut names: Vec<String> = fs::read_dir(folder).into_iter().flatten().flatten().filter_map(|entry| entry.file_name().into_string().ok()).collect();
+    names.sort();
+    names
+}
+
+/// The files of a crate's src/, specs/ and proofs/.
+pub fn files(root: &Path, crate_name: &str) -> Vec<PathBuf> {
+    ["src", "specs", "proofs"].iter().flat_map(|part| files_below(&root.join("crates").join(crate_name).join(part))).collect()
+}
+
+fn files_below(folder: &Path) -> Vec<PathBuf> {
+    let paths = names_in(folder).into_iter().map(|name| folder.join(name));
+    paths.flat_map(|path| if path.is_dir() { files_below(&path) } else { vec![path] }).collect()
+}
+
+/// The lines of a crate, which tell about how dear it is to check.
+pub fn lines(root: &Path, crate_name: &str) -> u64 {
+    files(root, crate_name).iter().map(|file| fs::read_to_string(file).map_or(0, |text| text.lines().count() as u64)).sum()
+}
+
+/// For each crate a number that changes with its files and with those of what it is built on.
+pub fn stamps(root: &Path) -> BTreeMap<String, String> {
+    let own = |name: &String| -> u64 {
+        let mut hasher = DefaultHasher::new();
+        files(root, name).iter().for_each(|file| (file.strip_prefix(root).ok(), fs::read(file).ok()).hash(&mut hasher));
+        hasher.finish()
+    };
+    let sums: BTreeMap<String, u64> = listed_crates(root).iter().map(|name| (name.clone(), own(name))).collect();
+    let stamp = |name: &String| {
+        let mut hasher = DefaultHasher::new();
+        built_on(root, name).iter().for_each(|below| sums.get(below).hash(&mut hasher));
+        format!("{:016x}", hasher.finish())
+    };
+    sums.keys().map(|name| (name.clone(), stamp(name))).collect()
 }
 
 /// Where functions begin and end: from a line with `fn` to the brace that closes it, at the same indentation.
@@ -184,11 +210,25 @@ pub fn without_functions(text: &str) -> String {
         at = to;
     }
     rest += &text[at..];
-    let for_functions = |line: &str| {
-        let imported = line.trim_start_matches("pub ").strip_prefix("use ").and_then(|path| path.rsplit("::").next());
-        line.starts_with("ghost use ") || line == "#[no_mangle]" || imported.is_some_and(|name| name.starts_with(|c: char| c.is_ascii_lowercase()))
-    };
-    rest.split_inclusive('\n').filter(|line| !for_functions(line.trim())).collect()
+    let mut types = String::new();
+    let mut left = &rest[..];
+    while let Some(line) = left.split_inclusive('\n').next() {
+        let is_import = ["use ", "pub use ", "ghost use "].iter().any(|start| line.starts_with(start));
+        let end = if is_import { left.find(";\n").map_or(left.len(), |i| i + 2) } else { line.len() };
+        types += &if is_import { import_of_types(&left[..end]) } else { line.into() };
+        left = &left[end..];
+    }
+    types
+}
+
+/// Of an import the names that have capital letters; nothing where it has none, or is one of definitions.
+fn import_of_types(import: &str) -> String {
+    let (path, names) = import.trim_end().trim_end_matches(['}', ';']).rsplit_once(['{', ':']).unwrap_or(("", ""));
+    let names: Vec<&str> = names.split(',').map(str::trim).filter(|name| name.starts_with(|c: char| c.is_uppercase())).collect();
+    if names.is_empty() || import.starts_with("ghost ") {
+        return String::new();
+    }
+    format!("{}::{{{}}};\n", path.trim_end_matches(':'), names.join(", "))
 }
 
 fn begins_function(line: &str) -> bool {
@@ -202,12 +242,13 @@ fn function(file: &File, number: usize, from: usize, to: usize) -> Option<Functi
         return None;
     }
     let head = tokens(file.text, from, body_from);
-    let open = head.iter().position(|t| t.is("("))?;
+    let name = 1 + head.iter().position(|t| t.is("fn"))?;
+    let open = name + head[name..].iter().position(|t| t.is("("))?;
     let close = closing(&head, open);
     Some(Function {
         file: number,
         module: file.module(),
-        name: head[open - 1].text.into(),
+        name: head[name].text.into(),
         params: split(&head[open + 1..close]).iter().map(|part| declared(part)).collect(),
         returns: returned(&head[close + 1..]),
         body: tokens(file.text, body_from, to - 1),
@@ -228,15 +269,17 @@ fn body_start(text: &str, from: usize) -> Option<usize> {
     None
 }
 
-/// `use a::b::c;` of functions and types; `crate` is the crate itself.
+/// `use a::b::c;` and `use a::b::{c, d};` of functions and types; `crate` is the crate itself.
 fn imports(all: &[Token], own: &str) -> Vec<[String; 3]> {
     let mut found = Vec::new();
-    for (i, _) in all.iter().enumerate().filter(|(_, t)| t.is("use")) {
-        let path: Vec<&str> = all[i + 1..].iter().take_while(|t| !t.is(";")).filter(|t| !t.is("::")).map(|t| t.text).collect();
-        if let [first, middle @ .., last] = &path[..] {
-            let first = if *first == "crate" { own } else { first };
-            found.push([first.to_string(), middle.join("::"), last.to_string()]);
-        }
+    for (i, _) in all.iter().enumerate().filter(|&(i, t)| t.is("use") && (i == 0 || !all[i - 1].is("ghost"))) {
+        let end = i + all[i..].iter().take_while(|t| !t.is(";")).count();
+        let open = (i..end).find(|&j| all[j].is("{")).unwrap_or(end - 1);
+        let path: Vec<&str> = all[i + 1..open].iter().filter(|t| !t.is("::")).map(|t| t.text).collect();
+        let Some((first, middle)) = path.split_first() else { continue };
+        let first = if *first == "crate" { own } else { first };
+        let names = all[open..end].iter().filter(|t| t.kind == Kind::Word);
+        found.extend(names.map(|name| [first.to_string(), middle.join("::"), name.text.to_string()]));
     }
     found
 }

@@ -1,24 +1,24 @@
 //! Edits that are written by hand. Each file of tools/mutate/together makes a wrong reader whose code still meets its definition: both are
 //! edited alike, and proofs where they follow the code. What refuses the edit should be a claim, a law in the paper's words or a computed case, so
-//! the edited crates and then all that depend on them are checked without their functions, lowest first; the table says what refused it. With `--code` they
+//! all crates that the edit reaches are checked without their functions, lowest first, until one is not proved; the table says what refused it. With `--code` they
 //! are checked whole, up to the static library, which shows that the code meets the edited definition in every crate below the one that refuses it.
 
-use crate::check::{Texts, Verdict, WorkingCopy};
+use crate::check::{Texts, Verdict, WorkingCopy, OF_ALL};
 use crate::report::{self, Report};
-use crate::source;
+use crate::source::names_in;
 use crate::theory;
 use std::collections::BTreeMap;
 use std::fs;
-use std::path::{Path, PathBuf};
+use std::path::Path;
 use std::sync::atomic::{AtomicUsize, Ordering::Relaxed};
 use std::sync::Mutex;
 use std::time::Instant;
 
-/// The last crate that is checked: the programs after it promise nothing of their own.
+/// The last crate that is checked with the code: the programs after it promise nothing of their own.
 const LAST: &str = "laddertick_c";
 
 /// An edit as its file has it.
-pub struct Together {
+struct Together {
     pub name: String,
     /// The sentence that it breaks.
     breaks: String,
@@ -33,20 +33,17 @@ struct Change {
 }
 
 /// What became of an edit, by its number, and what refused it.
-pub struct Outcome {
-    pub edit: usize,
-    pub verdict: Verdict,
-    pub refused_by: String,
+struct Outcome {
+    edit: usize,
+    verdict: Verdict,
+    refused_by: String,
 }
 
-/// The named edits of a folder, or all, in the order of their names; or their faults, such as a text that is not in its file. An edit in a folder of its own below it
-/// is of the crate of that name, and its files are that crate's.
-pub fn read(root: &Path, folder: &str, names: &[String]) -> Result<Vec<Together>, String> {
-    let folder = root.join("tools/mutate").join(folder);
-    let mut all = edits_in(&folder, "");
-    for name in names_in(&folder).iter().filter(|name| folder.join(name).is_dir()) {
-        all.extend(edits_in(&folder.join(name), name));
-    }
+/// The named edits, or all, in the order of their names; or their faults, such as a text that is not in its file.
+fn read(root: &Path, names: &[String]) -> Result<Vec<Together>, String> {
+    let folder = root.join("tools/mutate/together");
+    let edit = |file: &String| Some(parse(file.strip_suffix(".edit")?, &fs::read_to_string(folder.join(file)).expect("an edit")));
+    let mut all: Vec<Together> = names_in(&folder).iter().filter_map(edit).collect();
     let known = |name: &String| all.iter().any(|edit| edit.name == *name);
     let mut faults: Vec<String> = names.iter().filter(|name| !known(name)).map(|name| format!("no edit has the name {name}")).collect();
     all.retain(|edit| names.is_empty() || names.contains(&edit.name));
@@ -58,30 +55,17 @@ pub fn read(root: &Path, folder: &str, names: &[String]) -> Result<Vec<Together>
     }
 }
 
-fn names_in(folder: &Path) -> Vec<String> {
-    let mut names: Vec<String> = fs::read_dir(folder).expect("a folder of edits").flatten().filter_map(|entry| entry.file_name().into_string().ok()).collect();
-    names.sort();
-    names
-}
-
-/// The edits of a folder, of any crates or of one.
-fn edits_in(folder: &Path, crate_name: &str) -> Vec<Together> {
-    let (before, below) = if crate_name.is_empty() { (String::new(), String::new()) } else { (format!("{crate_name}/"), format!("crates/{crate_name}/")) };
-    let edit = |file: &String| Some(parse(&(before.clone() + file.strip_suffix(".edit")?), &below, &fs::read_to_string(folder.join(file)).expect("an edit")));
-    names_in(folder).iter().filter_map(edit).collect()
-}
-
-/// As a must-fail edit, its files below a folder. Several `old:` in a row are one text of several lines, and so are several `new:`.
-fn parse(name: &str, below: &str, text: &str) -> Together {
+/// As a must-fail edit, its files from the repository's root on. Several `old:` in a row are one text of several lines, and so are several `new:`.
+fn parse(name: &str, text: &str) -> Together {
     let mut edit = Together { name: name.into(), breaks: String::new(), changes: vec![] };
-    let (mut file, mut last) = (String::new(), "");
+    let (mut file, mut last) = ("", "");
     for line in text.lines() {
         let (word, rest) = line.split_once(' ').unwrap_or((line, ""));
         match (word, edit.changes.last_mut()) {
             ("#", _) if edit.breaks.is_empty() => edit.breaks = rest.into(),
-            ("file:", _) => file = format!("{below}{rest}"),
+            ("file:", _) => file = rest,
             ("old:", Some(change)) if last == word => change.old += &format!("\n{rest}"),
-            ("old:", _) => edit.changes.push(Change { file: file.clone(), old: rest.into(), new: String::new() }),
+            ("old:", _) => edit.changes.push(Change { file: file.into(), old: rest.into(), new: String::new() }),
             ("new:", Some(change)) if last == word => change.new += &format!("\n{rest}"),
             ("new:", Some(change)) => change.new = rest.into(),
             _ => {}
@@ -93,7 +77,7 @@ fn parse(name: &str, below: &str, text: &str) -> Together {
 
 impl Together {
     /// The files with their new texts, or what is wrong.
-    pub fn made(&self, root: &Path) -> Result<Texts<'_>, String> {
+    fn made(&self, root: &Path) -> Result<Texts<'_>, String> {
         let mut texts = Texts::new();
         for Change { file, old, new } in &self.changes {
             let text = match texts.get(file.as_str()) {
@@ -107,94 +91,78 @@ impl Together {
         }
         (!texts.is_empty()).then_some(texts).ok_or("it changes nothing".into())
     }
-
-    /// The crate of the first file that is edited.
-    pub fn crate_name(&self) -> &str {
-        self.changes[0].file.split('/').nth(1).unwrap_or("")
-    }
-
-    /// The crates whose files are edited and those that depend on them, in the order of crates.txt.
-    fn crates(&self, root: &Path) -> Vec<String> {
-        let mut touched: Vec<String> = vec![];
-        for (name, needs) in source::listed_dependencies(root) {
-            let edited = self.changes.iter().any(|change| change.file.starts_with(&format!("crates/{name}/")));
-            let is_last = name == LAST;
-            if edited || needs.iter().any(|need| touched.contains(need)) {
-                touched.push(name);
-            }
-            if is_last {
-                break;
-            }
-        }
-        touched
-    }
 }
 
-/// Tries edits, some at a time, each in a fresh copy of a proved one, or of that one without its functions: the table, and whether all were refused.
-pub fn run(root: &Path, folder: &Path, edits: &[Together], seconds: &BTreeMap<String, u64>, jobs: usize, code: bool) -> (String, bool) {
+/// Tries edits, some at a time, each in a copy of its own: the exit status.
+pub fn run(root: &Path, copies: &Path, folder: &Path, names: &[String], jobs: usize, code: bool) -> i32 {
+    let edits = match read(root, names) {
+        Ok(edits) => edits,
+        Err(faults) => {
+            eprintln!("{faults}\nNOTHING WAS TRIED: these edits do not fit the files");
+            return 2;
+        }
+    };
+    let last = if code { LAST } else { theory::LAST };
+    let copy = |name: &str, texts: &Texts| {
+        if !code {
+            return theory::make(root, &copies.join(name), texts);
+        }
+        let copy = WorkingCopy::make(root, &copies.join(name));
+        copy.write(texts);
+        copy
+    };
+    // unedited, it stays: the copies of the edits begin with what is kept there
+    let (verdict, said) = copy("unedited", &Texts::new()).check(last, OF_ALL);
+    if verdict != Verdict::Survived {
+        eprintln!("{said}the crates are not proved as they stand");
+        return 2;
+    }
     let report = Report::open(folder.into(), false, BTreeMap::new());
-    let from = if code { root.to_path_buf() } else { without_functions(root, &folder.join("theory")) };
     let next = AtomicUsize::new(0);
     let outcomes = Mutex::new(vec![]);
-    let work = |job: usize| loop {
-        let number = next.fetch_add(1, Relaxed);
-        let Some(edit) = edits.get(number) else { break };
-        let start = Instant::now();
-        let copy = WorkingCopy::make(&from, &folder.join(job.to_string()));
-        let texts = edit.made(root).expect("an edit that fits");
-        if code {
-            texts.iter().for_each(|(file, text)| copy.write(file, text));
-        } else {
-            theory::put_all(&copy, &texts);
+    let work = |job: usize| {
+        while let Some((number, edit)) = edits.iter().enumerate().nth(next.fetch_add(1, Relaxed)) {
+            let start = Instant::now();
+            let (verdict, said) = copy(&job.to_string(), &edit.made(root).expect("an edit that fits")).check(last, OF_ALL);
+            let refused_by = refused_by(&said, last);
+            report.add(&format!("{}: {refused_by}", edit.name), verdict, start.elapsed().as_secs_f64(), &said);
+            eprintln!("{}: {} {refused_by}", report::word(verdict), edit.name);
+            outcomes.lock().unwrap().push(Outcome { edit: number, verdict, refused_by });
         }
-        let (verdict, said) = attempt(&copy, edit, seconds);
-        let refused_by = refused_by(&said);
-        report.add(&format!("{}: {refused_by}", edit.name), verdict, &format!("{} s", start.elapsed().as_secs()), &said);
-        eprintln!("{}: {} {refused_by}", report::word(verdict), edit.name);
-        outcomes.lock().unwrap().push(Outcome { edit: number, verdict, refused_by });
     };
     std::thread::scope(|scope| (0..jobs).for_each(|job| drop(scope.spawn(move || work(job)))));
     let mut outcomes = outcomes.into_inner().unwrap();
     outcomes.sort_by_key(|outcome| outcome.edit);
-    (table(edits, &outcomes), outcomes.iter().all(|outcome| outcome.verdict == Verdict::Refused))
+    let table = table(&edits, &outcomes);
+    fs::write(folder.join("summary.txt"), &table).expect("the summary");
+    print!("{table}");
+    outcomes.iter().any(|outcome| outcome.verdict != Verdict::Refused) as i32
 }
 
-/// A copy without functions, in which all is proved that an edit is to contradict.
-fn without_functions(root: &Path, to: &Path) -> PathBuf {
-    let copy = theory::make(root, to);
-    let (said, status) = copy.check(&[], 7200);
-    assert!(status == Some(0), "{said}the crates without their functions are not proved");
-    copy.root
-}
-
-/// Checks crate after crate until one is not proved: the verdict on that one, and what `rt` said of it.
-fn attempt(copy: &WorkingCopy, edit: &Together, seconds: &BTreeMap<String, u64>) -> (Verdict, String) {
-    for name in edit.crates(&copy.root) {
-        let (verdict, said) = copy.verdict_as_it_stands(&name, 300 + 10 * seconds[&name]);
-        if verdict != Verdict::Survived {
-            return (verdict, said);
+/// The first error's file and line, its words, and the names that the errors of that file stand in: a lemma that fails takes those that rest on it along. The crate is the
+/// last one, or the library below it that was not proved.
+fn refused_by(said: &str, last: &str) -> String {
+    let crate_name = said.lines().find_map(|line| line.strip_prefix("rt: the library ")?.split_once(" did not build")).map_or(last, |(name, _)| name);
+    let places = said.lines().filter_map(|line| line.split_once(": error: "));
+    let unmet = said.lines().filter_map(|line| line.strip_prefix("note: ").and_then(|line| Some(line.split_at(line.find(": it is not proved ")?))));
+    let errors: Vec<(&str, &str)> = places.chain(unmet).map(|(place, words)| (place.trim_start_matches("./"), words.trim_start_matches(": "))).collect();
+    let Some((first, words)) = errors.first() else { return String::new() };
+    let file = |place: &str| place.split(':').next().unwrap_or(place).to_string();
+    let mut names: Vec<&str> = vec![];
+    for (_, words) in errors.iter().filter(|(place, _)| file(place) == file(first)) {
+        let own = words.strip_prefix('`').and_then(|rest| rest.split('`').next());
+        let resting = words.split_once(" not checked: ").map_or("", |(_, names)| names);
+        for name in own.into_iter().chain(resting.split(", ").filter_map(|name| name.split(' ').next())) {
+            if !name.is_empty() && !names.contains(&name) {
+                names.push(name);
+            }
         }
     }
-    (Verdict::Survived, String::new())
+    let line = first.rsplit_once(':').map_or(*first, |(line, _)| line);
+    format!("{crate_name}/{line} ({}): {words}", names.join(", "))
 }
 
-/// The first error's file and line, its words, and the names that the errors of that file stand in: a lemma that fails takes those that rest on it along.
-pub fn refused_by<'a>(said: &'a str) -> String {
-    let error = |line: &'a str| -> Option<(&str, &str)> {
-        let (place, words) = line.split_once("/crates/")?.1.split_once(": error: ")?;
-        Some((place.rsplit_once(':')?.0, words))
-    };
-    let errors: Vec<(&str, &str)> = said.lines().filter_map(error).collect();
-    let Some((place, first)) = errors.first() else { return String::new() };
-    let file = |place: &'a str| place.split(':').next();
-    let mut names: Vec<&str> = vec![];
-    for (_, words) in errors.iter().filter(|(other, _)| file(other) == file(place)) {
-        names.extend(words.split('`').nth(1).filter(|name| words.starts_with('`') && !names.contains(name)));
-    }
-    format!("{place} ({}): {first}", names.join(", "))
-}
-
-pub fn table(edits: &[Together], outcomes: &[Outcome]) -> String {
+fn table(edits: &[Together], outcomes: &[Outcome]) -> String {
     let row = |outcome: &Outcome| {
         let Together { name, breaks, changes } = &edits[outcome.edit];
         let mut files: Vec<&str> = changes.iter().map(|change| change.file.trim_start_matches("crates/")).collect();
