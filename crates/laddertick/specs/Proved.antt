@@ -1,7 +1,7 @@
 -- The code, and the contract that it is proved to meet. `statement` is the toolchain's: whatever the memory, where
 -- what its `requires` asks holds the function's compiled body (its MIR) returns, touches only what it owns or was lent,
 -- and what its `ensures` says holds then. `says`: the first clause asks nothing, and the second is the contract as
--- `Contracts` has it.
+-- `HostContracts` has it.
 use Rattle.std.specs.Prelude.{List, ℕ, ◌≡◌}
 use borrow.Fn.Kinds.{ParamKind, ResultKind, Dens, res_t, ended_of, Out}
 use Rattle.elements.proofs.walk_state.start.Kinds as start_kinds
