@@ -127,7 +127,7 @@ def version() -> str:
 
 def meaning(number: int) -> str:
     """What the number of a refusal means, in words that an operator can be told."""
-    said: bytes = laddertick_meaning(number)
+    said: bytes = laddertick_meaning(uint32("number", number))
     return said.decode("ascii")
 
 
@@ -136,8 +136,8 @@ Bytes = Union[bytes, bytearray, memoryview]
 
 
 def given(file: Bytes) -> bytes:
-    """The bytes of a file. What can be written is copied, for nobody may write it during a call."""
-    if isinstance(file, bytes):
+    """The bytes of a file. What can be written is copied, for nobody may write it during a call; so is a subclass of `bytes`, which may say another length than it has."""
+    if type(file) is bytes:
         return file
     if isinstance(file, str):
         raise TypeError("a label file is bytes and not str: open it with mode 'rb'")
@@ -146,7 +146,8 @@ def given(file: Bytes) -> bytes:
 
 # ctypes cuts a number that is too large for its field, and would look at other bytes than those that are meant.
 def _within(name: str, number: int, least: int, most: int) -> int:
-    number = index(number)
+    # Before Python 3.10 `index` gives a subclass of int back as it is, and that may compare as it likes.
+    number = int.__index__(index(number))
     if not least <= number <= most:
         raise OverflowError(f"{name} is not within {least} to {most}: {number}")
     return number
@@ -154,6 +155,10 @@ def _within(name: str, number: int, least: int, most: int) -> int:
 
 def uint8(name: str, number: int) -> int:
     return _within(name, number, 0, 0xFF)
+
+
+def uint32(name: str, number: int) -> int:
+    return _within(name, number, 0, 0xFFFFFFFF)
 
 
 def int32(name: str, number: int) -> int:

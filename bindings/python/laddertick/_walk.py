@@ -45,14 +45,16 @@ def _dots(dots: int) -> int:
 
 
 class Steps(Iterator[Step]):
-    """A walk over a file, a step at a time. It ends at the end of the file; a refused line raises `Refused`, and nothing comes behind it."""
+    """A walk over a file, a step at a time. It ends at the end of the file, or at the place `end` in it; a refused line raises `Refused`, and nothing comes behind it."""
 
     unprinted: int
     """Once the end is reached: how many elements stand behind the last print line. They are no label, and the file may have been sent by halves."""
 
     def __init__(self, file: Bytes, walk: Optional[Walk] = None, end: Optional[int] = None) -> None:
         self._file = given(file)
-        self._end = len(self._file) if end is None else end
+        self._end = len(self._file) if end is None else size("end", end)
+        if self._end > len(self._file):
+            raise ValueError(f"end is past the {len(self._file)} bytes of the file: {self._end}")
         self._over = False
         self.unprinted = 0
         if walk is None:

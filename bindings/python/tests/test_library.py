@@ -1,6 +1,7 @@
 """The shared object as it is called: declarations beside the header's, room to the byte, hostile bytes and counts, and where it is found."""
 
 import ctypes
+import dataclasses
 import os
 import random
 import re
@@ -168,6 +169,80 @@ class Hostile(unittest.TestCase):
             except Refused as refused:
                 self.assertIn(refused.number, {*range(1, 14), 16, 19})
         self.assertGreater(answered, 50)
+
+
+class Lying(bytes):
+    """Bytes that say another length, and other bytes, than they have."""
+
+    def __len__(self):
+        return 1 << 20
+
+    def __getitem__(self, _):
+        return 0
+
+    def decode(self, *_):
+        return "lies"
+
+    count = __getitem__
+
+
+class Larger(int):
+    """A number that says of itself that it is within any bounds."""
+
+    def __ge__(self, _):
+        return True
+
+    __le__ = __gt__ = __lt__ = __ge__
+
+
+class Lengths(unittest.TestCase):
+    """No public name of the package lends the library a length that is not that of the bytes."""
+
+    FILE = b'LO1,2,3,4\nA1,2,0,1,1,1,N,"\xffx"\nP2,3\nLO5,6,7,8\nP\n'
+
+    def test_an_end_is_within_the_file(self):
+        for file in (b"LO", b"", self.FILE):
+            for end in (len(file) + 1, 1 << 20, MOST):
+                self.assertRaisesRegex(ValueError, f"end is past the {len(file)} bytes of the file: {end}", laddertick.Steps, file, None, end)
+                self.assertRaises(ValueError, laddertick.Steps, file, None, Larger(end))
+            for end in (-1, MOST + 1):
+                self.assertRaises(OverflowError, laddertick.Steps, file, None, end)
+                self.assertRaises(OverflowError, laddertick.Steps, file, None, Larger(end))
+            self.assertRaises(TypeError, laddertick.Steps, file, None, 0.5)
+        # A file cut at its end is walked as those bytes are alone.
+        for end in range(len(self.FILE) + 1):
+            self.assertEqual(self.walked(self.FILE, end), self.walked(self.FILE[:end], None), end)
+
+    def walked(self, file, end):
+        steps = laddertick.Steps(file, None, end)
+        answers = []
+        try:
+            answers.extend(steps)
+        except Refused as refused:
+            answers.append((refused.number, refused.place, refused.line))
+        return answers, steps.walk, steps.unprinted
+
+    def test_a_subclass_of_bytes_is_its_bytes(self):
+        lying = Lying(self.FILE)
+        self.assertEqual((len(lying), type(_library.given(lying)), _library.given(lying)), (1 << 20, bytes, self.FILE))
+        for call in (laddertick.listing, laddertick.strict_listing, laddertick.normalise, laddertick.check, lambda file: laddertick.join(file, file)):
+            self.assertEqual(call(lying), call(self.FILE))
+        for call in (laddertick.labels, laddertick.steps, laddertick.Steps, Index.of, lambda file: [Index(file, Index.of(self.FILE)).label(1)]):
+            self.assertEqual(list(call(lying)), list(call(self.FILE)))
+        self.assertEqual(laddertick.decode(Lying(b"\xffx")), "\ufffdx")
+        text = next(laddertick.labels(self.FILE)).elements[1]
+        changed = dataclasses.replace(text, data=Lying(text.data))
+        self.assertEqual((changed.text, laddertick.write(changed)), (text.text, laddertick.write(text)))
+        self.assertEqual(laddertick.write_label(laddertick.Label((changed, text), 1, 1)), laddertick.write_label(laddertick.Label((text, text), 1, 1)))
+        with self.assertRaises(Refused) as caught:
+            laddertick.listing(Lying(b"N\nLO1"))
+        self.assertEqual((caught.exception.number, caught.exception.line), (4, 2))
+
+    def test_a_number_is_not_cut(self):
+        self.assertEqual(laddertick.meaning(2**32 - 1), "unknown")
+        for number in (2**32, 2**32 + 1, -1, 2**64 + 1, Larger(2**32 + 1)):
+            self.assertRaises(OverflowError, laddertick.meaning, number)
+        self.assertRaises(TypeError, laddertick.meaning, 1.0)
 
 
 class Found(unittest.TestCase):
