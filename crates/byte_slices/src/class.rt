@@ -8,9 +8,5 @@ use byte_classes::class::is_digit;
 pub fn digit_run(s: &[u8]) -> usize
     ensures { result ≡ digit_run s.now }
 {
-    let mut i = 0;
-    while i < s.len() && is_digit(s[i]) {
-        i += 1;
-    }
-    i
+    s.iter().take_while(|b| is_digit(**b)).count()
 }

@@ -15,11 +15,9 @@ fn window(a: &[u8], from: usize, b: u8) -> u8
     ensures { First a.now b from (from + 64) (from + result) }
 {
     let mut k: u8 = 64;
-    let mut i: u8 = 0;
-    while i < 64 {
+    for i in 0..64u8 {
         let c: u8 = if a[from + (i as usize)] == b { i } else { 64 };
         k = if c < k { c } else { k };
-        i += 1;
     }
     k
 }
@@ -52,14 +50,10 @@ fn by_one(a: &[u8], from: usize, b: u8) -> usize
     requires { from ≤ length a.now }
     ensures { First a.now b from (length a.now) result }
 {
-    let mut i = from;
-    while i < a.len() {
-        if a[i] == b {
-            return i;
-        }
-        i += 1;
+    match a[from..].iter().position(|x| *x == b) {
+        Some(k) => from + k,
+        None => a.len(),
     }
-    i
 }
 
 // The first b among the first NEAR bytes, eight at a time, or NEAR: what stands near is known sooner than by a window.
@@ -97,6 +91,7 @@ fn scan(a: &[u8], b: u8) -> usize
 }
 
 // The index of the first b, or the length where there is none.
+#[tactic(auto, using(text::proofs::ScanLaws::first_found))]
 pub fn find(s: &[u8], b: u8) -> usize
     ensures { Found b s.now result }
 {

@@ -17,6 +17,7 @@ fn wide(b: u8) -> u64
 }
 
 // One byte, two and four from i on, the first lowest. The compiler makes one load of eight.
+#[tactic(auto, using(text::proofs::WordLaws::word_one))]
 fn one(a: &[u8], i: usize) -> u64
     requires { i + 1 ≤ length a.now }
     ensures word { Word 1 a.now i result }

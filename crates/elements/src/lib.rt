@@ -34,18 +34,18 @@ pub struct DataSpan {
 // Quarter turns.
 #[derive(Clone, Copy)]
 pub enum FieldOrientation {
-    Normal,
-    Rotated90,
-    Rotated180,
-    Rotated270,
+    Normal = 0,
+    Rotated90 = 1,
+    Rotated180 = 2,
+    Rotated270 = 3,
 }
 
 // The file is not among the Rust's that came with the scope; its use shows the first two. Xor is ours, for `LE`.
 #[derive(Clone, Copy)]
 pub enum LineColor {
-    Black,
-    White,
-    Xor,
+    Black = 0,
+    White = 1,
+    Xor = 2,
 }
 
 // A font's number and the two multipliers, as read: after defaults and least values. Any number is kept.
@@ -102,12 +102,12 @@ pub struct GraphicField {
     pub data: DataSpan,
 }
 
-// Code 128 (frame 05).
+// Code 128 (frame 05), with its mode flag.
 #[derive(Clone, Copy)]
 pub enum BarcodeMode {
-    Ucc,
-    Automatic,
-    Ean,
+    Ucc = 1,
+    Automatic = 2,
+    Ean = 3,
 }
 
 #[derive(Clone, Copy)]
@@ -302,13 +302,13 @@ pub struct BarcodeDatamatrixWithData {
     pub data: DataSpan,
 }
 
-// QR (frame 0e).
+// QR (frame 0e). The levels are their letters.
 #[derive(Clone, Copy)]
 pub enum QrErrorCorrectionLevel {
-    H,
-    Q,
-    M,
-    L,
+    H = 72,
+    Q = 81,
+    M = 77,
+    L = 76,
 }
 
 #[derive(Clone, Copy)]

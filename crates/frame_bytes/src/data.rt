@@ -10,13 +10,12 @@ use byte_slices::utf8::decoded_len;
 use elements::DataSpan;
 use elements::plain::Data;
 use numbers::blank::first;
-use text::num::min;
 
 // The bytes at d, as far as the input goes.
 pub fn part(input: &[u8], d: DataSpan) -> &[u8]
     ensures { result.now ≡ part input.now d }
 {
-    let start = min(d.start, input.len());
+    let start = d.start.min(input.len());
     first(&input[start..], d.len)
 }
 
@@ -68,7 +67,7 @@ fn with_payload(fixed: usize, input: &[u8], d: DataSpan) -> usize
     requires { fixed ≤ 4294967295 }
     ensures { result ≡ min 4294967295 (fixed + length (part input.now d)) }
 {
-    fixed + min(part(input, d).len(), 4294967295 - fixed)
+    fixed + part(input, d).len().min(4294967295 - fixed)
 }
 
 // The length of a frame of data and fixed bytes more, 4294967295 at most.

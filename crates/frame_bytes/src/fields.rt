@@ -10,50 +10,32 @@ use elements::{BarcodeMode, FieldOrientation, LabelPosition, LineColor, QrErrorC
 pub fn flag(b: bool) -> u8
     ensures { result ≡ flag b }
 {
-    if b { 1 } else { 0 }
+    u8::from(b)
 }
 
 pub fn rotation(o: FieldOrientation) -> u8
     ensures { result ≡ rotation o }
 {
-    match o {
-        FieldOrientation::Normal => 0,
-        FieldOrientation::Rotated90 => 1,
-        FieldOrientation::Rotated180 => 2,
-        FieldOrientation::Rotated270 => 3,
-    }
+    o as u8
 }
 
 pub fn colour(c: LineColor) -> u8
     ensures { result ≡ colour c }
 {
-    match c {
-        LineColor::Black => 0,
-        LineColor::White => 1,
-        LineColor::Xor => 2,
-    }
+    c as u8
 }
 
 pub fn mode(m: BarcodeMode) -> u8
     ensures { result ≡ mode m }
 {
-    match m {
-        BarcodeMode::Ucc => 1,
-        BarcodeMode::Automatic => 2,
-        BarcodeMode::Ean => 3,
-    }
+    m as u8
 }
 
 // The level's letter.
 pub fn level(l: QrErrorCorrectionLevel) -> u8
     ensures { result ≡ level l }
 {
-    match l {
-        QrErrorCorrectionLevel::H => b'H',
-        QrErrorCorrectionLevel::Q => b'Q',
-        QrErrorCorrectionLevel::M => b'M',
-        QrErrorCorrectionLevel::L => b'L',
-    }
+    l as u8
 }
 
 pub fn put_flag(out: &mut [u8], at: usize, b: bool) -> usize
@@ -85,8 +67,7 @@ pub fn put_bars(out: &mut [u8], at: usize, b: Bars) -> usize
     requires { at + 20 ≤ length out.old }
     ensures { PutHex out.new out.old at (bar_bytes b) 10 result }
 {
-    let turned = b.orientation;
-    let a = put_rotation(out, at, turned);
+    let a = put_rotation(out, at, b.orientation);
     let c = put_i32(out, a, b.narrow);
     let d = put_i32(out, c, b.height);
     put_flag(out, d, b.line)

@@ -13,7 +13,7 @@ fn hex_digit(n: u8) -> u8
     requires { n < 16 }
     ensures { result ≡ digit n }
 {
-    if n < 10 { 48 + n } else { 87 + n }
+    if n < 10 { b'0' + n } else { b'a' + (n - 10) }
 }
 
 pub fn put_byte(out: &mut [u8], at: usize, b: u8) -> usize
@@ -57,11 +57,9 @@ pub(crate) fn put_bytes(src: &[u8], out: &mut [u8], at: usize) -> usize
     requires { at + 2 * length src.now ≤ length out.old }
     ensures { PutHex out.new out.old at src.now (length src.now) result }
 {
-    let mut i = 0;
     let mut o = at;
-    while i < src.len() {
-        o = put_byte(out, o, src[i]);
-        i += 1;
+    for b in src {
+        o = put_byte(out, o, *b);
     }
     o
 }
@@ -94,7 +92,7 @@ pub(crate) fn put_decoded(src: &[u8], out: &mut [u8], at: usize) -> usize
 {
     let mut o = at;
     let mut t = src;
-    while 0 < t.len() {
+    while !t.is_empty() {
         let k = part_len(t);
         o = put_part(&t[..k], out, o);
         t = &t[k..];

@@ -14,7 +14,10 @@ use lib.Dec.{eqb, ltb, leb-suc-suc}
 use borrow.Author.Tests.{eqb-true, eq-eqb, ne_eqb, lt-ltb, ltb-false}
 use Rattle.text.specs.Fields.{index_of, before, after, before_last, ahead, fields, field, same}
 use Rattle.text.proofs.BoolLaws.{and_both, test}
-use Rattle.text.proofs.DropSteps.{rest, rev_take, take_none}
+use Rattle.std.proofs.lemmas.List.{get_or-reverse}
+use Rattle.text.proofs.DropLaws.{drop_reverse}
+use Rattle.text.proofs.DropSteps.{rest}
+use Rattle.text.proofs.ScanLaws.{index_is}
 
 -- index_of
 
@@ -49,19 +52,33 @@ after_here b s r e = rest s (r + 1) ∙ rw (add-one, e)
 pub after_end : (b : ℕ) (s : List ℕ) (r : ℕ) → r ≡ index_of b s → length s ≤ r → take (length s - r) (drop r s) ≡ after b s
 after_end b s r e h = rest s r ∙ drop_of_length-le s h ∙ sym (after_none b s (omega arith))
 
--- one turn of the loop that looks for the last b, at n
-module _ (b : ℕ) (s : List ℕ) (n : ℕ) where
-  pub last_skip : 0 < n → n ≤ length s → (get_or s (n - 1) 0 ≡ b → ⊥) → before_last b (take n s) ≡ before_last b (take (n - 1) s)
-  unfolding before_last after
-  last_skip p h e = rw (rev_take s n) (simp (ne_eqb (get_or s (n - 1) 0) b e))
+-- b stands at i, and at no place behind it
+pub last_at : (b : ℕ) (s : List ℕ) (i : ℕ) → i < length s → get_or s i 0 ≡ b → ((k : ℕ) → i + 1 ≤ k → k < length s → get_or s k 0 ≡ b → ⊥) → take i s ≡ before_last b s
+unfolding before_last after
+last_at b s i h e n =
+    let l = length-reverse s in
+    let at : length s - (i + 1) ≡ index_of b (reverse s) =
+    index_is b (reverse s) (length s - (i + 1)) (omega arith)
+    (λ k q f. n (length s - 1 - k) (omega arith) (omega arith) (sym (get_or-reverse s k 0 (omega arith)) ∙ f))
+    (λ q. get_or-reverse s (length s - (i + 1)) 0 (omega arith) ∙ ap (λ (m : ℕ). get_or s m 0) (omega arith) ∙ e) in
+    let d : suc (index_of b (reverse s)) ≡ length s - i = omega arith in
+    let m : length s - (length s - i) ≡ i = omega arith in
+    sym
+    (ap (λ (k : ℕ). reverse (drop k (reverse s))) d
+    ∙ ap reverse (drop_reverse (length s - i) s (omega arith))
+    ∙ reverse-reverse (take (length s - (length s - i)) s)
+    ∙ ap (λ (k : ℕ). take k s) m)
 
-  pub last_here : 0 < n → n ≤ length s → get_or s (n - 1) 0 ≡ b → before_last b (take n s) ≡ take (n - 1) s
-  unfolding before_last after
-  last_here p h e = rw (rev_take s n) (simp (eq-eqb (get_or s (n - 1) 0) b e) (reverse-reverse (take (n - 1) s)))
-
-  pub last_none : n ≤ 0 → before_last b (take n s) ≡ []
-  unfolding before_last after
-  last_none h = ap (before_last b) (take_none s n h)
+-- no b stands in s
+pub last_none : (b : ℕ) (s : List ℕ) → ((k : ℕ) → k < length s → get_or s k 0 ≡ b → ⊥) → [] ≡ before_last b s
+unfolding before_last
+last_none b s n =
+    let l = length-reverse s in
+    let at : length s ≡ index_of b (reverse s) =
+    index_is b (reverse s) (length s) (omega arith)
+    (λ k q f. n (length s - 1 - k) (omega arith) (sym (get_or-reverse s k 0 (omega arith)) ∙ f))
+    (λ q. absurd (omega arith)) in
+    sym (ap reverse (after_none b (reverse s) (omega arith)))
 
 -- fields
 

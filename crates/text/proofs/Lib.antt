@@ -13,5 +13,6 @@ pub mod ScanLaws
 pub mod FieldsLaws
 pub mod BlankSteps
 pub mod Utf8Steps
+pub mod ClassLaws
 pub mod Cases
 pub mod WordLaws

@@ -1,14 +1,11 @@
--- `crate::fields::without_trailing_commas` meets its contract. Invariant: nothing but commas stands from n on. Measure:
--- n.
-use Rattle.std.proofs.Common.{◌≡◌, ℕ, Bool, ◌≤◌, length, take, reverse, nat_eq}
-use Rattle.text.specs.Blank.{drop_while}
+-- `crate::fields::without_trailing_commas` meets its contract. Invariant: t without its last commas is s without them.
+-- Measure: t's length.
+use Rattle.std.proofs.Common.{◌≡◌, length}
+use Rattle.text.specs.Fields.{without_trailing_commas}
 use Rattle.byte_slices.proofs.fields.without_trailing_commas.Given as goal
 
-abbrev comma : ℕ → Bool
-comma b = nat_eq b 44
+abbrev pub invariant-loop-t : goal.invariant-loop-t
+invariant-loop-t l = without_trailing_commas l.s ≡ without_trailing_commas l.t
 
-abbrev pub invariant-loop-n : goal.invariant-loop-n
-invariant-loop-n l = (l.n ≤ length l.s) × (drop_while comma (reverse l.s) ≡ drop_while comma (reverse (take l.n l.s)))
-
-abbrev pub decreases-loop-n : goal.decreases-loop-n
-decreases-loop-n l = l.n
+abbrev pub decreases-loop-t : goal.decreases-loop-t
+decreases-loop-t l = length l.t
