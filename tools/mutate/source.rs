@@ -181,21 +181,24 @@ pub fn stamps(root: &Path) -> BTreeMap<String, String> {
     sums.keys().map(|name| (name.clone(), stamp(name))).collect()
 }
 
-/// Where functions begin and end: from a line with `fn` to the brace that closes it, at the same indentation.
+/// Where functions begin and end: from a line with `fn`, or from the attributes right above it, to the brace that closes it, at the same indentation.
 fn function_parts(text: &str) -> Vec<(usize, usize)> {
     let mut parts = Vec::new();
     let mut open: Option<(usize, usize)> = None;
+    let mut attributes: Option<usize> = None;
     let mut at = 0;
     for line in text.split_inclusive('\n') {
         let indent = line.len() - line.trim_start().len();
+        let is_attribute = line.trim_start().starts_with("#[");
         match open {
-            None if begins_function(line.trim()) => open = Some((at, indent)),
+            None if begins_function(line.trim()) => open = Some((attributes.unwrap_or(at), indent)),
             Some((from, depth)) if indent == depth && line.trim() == "}" => {
                 parts.push((from, at + indent + 1));
                 open = None;
             }
             _ => {}
         }
+        attributes = is_attribute.then_some(attributes.unwrap_or(at));
         at += line.len();
     }
     parts
@@ -284,12 +287,13 @@ fn imports(all: &[Token], own: &str) -> Vec<[String; 3]> {
     found
 }
 
-/// A field, parameter or variant: its name, and its type or what it carries, without blanks.
+/// A field, parameter or variant: its name, and its type or what it carries, without blanks. The number that a variant stands for is no part of that.
 fn declared(part: &[Token]) -> (String, String) {
     let skip = part.iter().take_while(|t| t.is_one_of(&["pub", "mut"])).count();
     let part = &part[skip..];
     let behind = if part.get(1).is_some_and(|t| t.is(":")) { 2 } else { 1 };
-    (part[0].text.into(), part[behind.min(part.len())..].iter().map(|t| t.text).collect())
+    let carried = part[behind.min(part.len())..].iter().take_while(|t| !t.is("="));
+    (part[0].text.into(), carried.map(|t| t.text).collect())
 }
 
 fn returned(behind: &[Token]) -> String {
